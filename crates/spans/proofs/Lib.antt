@@ -1,0 +1,5 @@
+pub mod Alone
+pub mod Circle
+pub mod Cover
+pub mod Euclid
+pub mod Sharing

@@ -1,0 +1,4 @@
+pub mod Divisors
+pub mod Spans
+pub mod Places
+pub mod Overlap
