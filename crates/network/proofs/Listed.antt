@@ -74,7 +74,7 @@ listed-unique (e ∷ es) (f ∷ fs) S n single l m =
 
 module _ {S : ℕ → ℕ → Type 0} {n : ℕ} {es : List Gate} where
   -- before a list for the places from 1 on that begins with another state stands a record of duration 1
-  listed-new : (e : Gate) → e .duration ≡ 1 → S 0 (e .state) → Listed (λ y. S (suc y)) n es →
+  pub listed-new : (e : Gate) → e .duration ≡ 1 → S 0 (e .state) → Listed (λ y. S (suc y)) n es →
       ((x : Gate) → At es 0 x → ¬ (e .state ≡ x .state)) → Listed S (suc n) (e ∷ es)
   listed-new e one given l new = record { some = some; whole = let whole = l .whole in omega arith; differ = differ; states = states }
     where
@@ -91,7 +91,7 @@ module _ {S : ℕ → ℕ → Type 0} {n : ℕ} {es : List Gate} where
       states (suc y) s shown = l .states y s (shows-later y shown (omega arith))
 
   -- where a list for the places from 1 on begins with the state of place 0, its first record lasts 1 longer
-  listed-longer : (e x : Gate) → x .duration ≡ suc (e .duration) → x .state ≡ e .state → S 0 (x .state) →
+  pub listed-longer : (e x : Gate) → x .duration ≡ suc (e .duration) → x .state ≡ e .state → S 0 (x .state) →
       Listed (λ y. S (suc y)) n (e ∷ es) → Listed S (suc n) (x ∷ es)
   listed-longer e x longer state given l =
       record { some = some; whole = let whole = l .whole in omega arith; differ = differ; states = states }

@@ -1,5 +1,5 @@
--- It is decided whether two flows overlap, and so whether some two of the flows do.
--- Rests on a decision of whether two repeating spans share an instant.
+-- It is decided whether two flows overlap, and so whether some two of the flows do, since it is decided whether two repeating spans share an instant.
+-- Assumes nothing.
 use mathlib.Core.Path.{_≡_, refl, sym, ap}
 use mathlib.Core.List.{List, [], _∷_}
 use mathlib.Core.Logic.{_⊎_, inl, inr}
@@ -7,20 +7,17 @@ use Prim.Native.Nat.{ℕ, zero, suc, _<_}
 use native.Mathlib.Decide.{ℕ-discrete}
 use native.Mathlib.Omega.{arith}
 use Rattle.spans.specs.Spans.{Share}
+use Rattle.spans.proofs.Formula.{share?}
 use Rattle.network.specs.Flows.{At, here, next, Hop, Flow, Network, Well}
 use Rattle.network.specs.Overlap.{first, Overlap, Apart, Clash}
 use Rattle.network.proofs.Lists.{At-empty, Found, found?}
-
--- a decision of whether two repeating spans share an instant
-abbrev pub Share? : Type 0
-Share? = (x T v y U w : ℕ) → 0 < T → 0 < U → 0 < v → 0 < w → Dec (Share x T v y U w)
 
 -- two hops of two flows are on one port, and spans of the flows share an instant there
 abbrev Meet : Flow → Flow → Hop → Hop → Type 0
 Meet f g h i = (h .port ≡ i .port) × Share (first f h) (f .period) (h .wire) (first g i) (g .period) (i .wire)
 
 -- if f overlaps g, then g overlaps f
-overlap-sym : {f g : Flow} → Overlap f g → Overlap g f
+pub overlap-sym : {f g : Flow} → Overlap f g → Overlap g f
 overlap-sym overlap =
     let share = overlap .share in
     record {
@@ -41,7 +38,7 @@ apart-more none apart zero (suc j) g g′ here (next flow) overlap = absurd (non
 apart-more none apart (suc i) zero g g′ (next flow) here overlap = absurd (none (record { n = i; x = g; at = flow; holds = overlap-sym overlap }))
 apart-more none apart (suc i) (suc j) g g′ (next flow) (next flow′) overlap = ap suc (apart i j g g′ flow flow′ overlap)
 
-module _ (share? : Share?) {net : Network} where
+module _ {net : Network} where
   -- it is decided whether two hops meet
   meet? : {f g : Flow} {k k′ : ℕ} {h i : Hop} → Well net f → Well net g → At (f .hops) k h → At (g .hops) k′ i → Dec (Meet f g h i)
   meet? {f} {g} {k} {k′} {h} {i} well well′ hop hop′ =

@@ -6,10 +6,11 @@ use Prim.Native.Nat.{ℕ}
 use Rattle.network.specs.Flows.{Flow, Network, Formed, Sound}
 use Rattle.network.specs.Overlap.{Apart, Clash}
 use Rattle.network.specs.Run.{Sent, Run, Waits, frame}
-use Rattle.network.specs.Theorems.{Follow, Runs-exist, Waits-exactly-where-flows-overlap}
+use Rattle.network.specs.Theorems.{Follow, Waits-exactly-where-flows-overlap}
 use Rattle.network.proofs.NoWait.{no-wait}
 use Rattle.network.proofs.OverlapWaits.{overlap-waits}
-use Rattle.network.proofs.OverlapDecided.{Share?, apart-or-clash}
+use Rattle.network.proofs.OverlapDecided.{apart-or-clash}
+use Rattle.network.proofs.RunsExist.{runs-exist}
 
 -- a frame that keeps its plan does not wait
 apart-no-waits : (net : Network) (flows : List Flow) (gate : ℕ → ℕ → ℕ) (sent : Sent) → Sound net → Formed net flows → Follow net flows gate → Apart flows → Run net flows gate sent → ¬ Waits net flows sent
@@ -20,9 +21,9 @@ apart-no-waits net flows gate sent sound formed follow apart run waits =
     let at = kept .only (waits .k) (waits .r) h (waits .ready) in
     waits .late (subst (λ (r : ℕ). sent (h .port) r ≡ frame f h (waits .a)) (sym at) (kept .begun (waits .k) h (waits .hop)))
 
--- frames wait exactly where flows overlap, where runs exist and it is decided whether spans share an instant
-pub waits-exactly-where-flows-overlap : Runs-exist → Share? → Waits-exactly-where-flows-overlap
-waits-exactly-where-flows-overlap runs-exist share? net flows gate sound formed follow = record {
+-- frames wait exactly where flows overlap
+pub waits-exactly-where-flows-overlap : Waits-exactly-where-flows-overlap
+waits-exactly-where-flows-overlap net flows gate sound formed follow = record {
   none = λ apart sent run. apart-no-waits net flows gate sent sound formed follow apart run;
   apart = λ never. elim decided [
     | inl apart ↦ apart
@@ -36,7 +37,7 @@ waits-exactly-where-flows-overlap runs-exist share? net flows gate sound formed 
 }
   where
     decided : Apart flows ⊎ Clash flows
-    decided = apart-or-clash share? flows (formed .each)
+    decided = apart-or-clash flows (formed .each)
 
     some : Clash flows → (sent : Sent) × Run net flows gate sent × Waits net flows sent
     some clash =

@@ -1,5 +1,5 @@
 // What follows from the definitions of flows, gates and runs: each theorem on the contract of a function.
-ghost use Rattle.network.specs.Theorems.{No-wait, Overlap-waits, Runs-exist, One-gate-list};
+ghost use Rattle.network.specs.Theorems.{No-wait, Overlap-waits, Runs-exist, One-gate-list, Waits-exactly-where-flows-overlap};
 
 // Flows that do not overlap keep their plan in every run.
 pub fn no_wait() -> u8
@@ -18,6 +18,13 @@ pub fn runs_exist() -> u8
 // Where two flows overlap, some scheduled frame waits in every run.
 pub fn overlap_waits() -> u8
     ensures { λ _. ⌜ Overlap-waits ⌝ }
+{
+    0
+}
+
+// Under gates with the defined states, frames wait exactly where flows overlap.
+pub fn waits_exactly() -> u8
+    ensures { λ _. ⌜ Waits-exactly-where-flows-overlap ⌝ }
 {
     0
 }

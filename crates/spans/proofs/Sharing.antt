@@ -12,7 +12,7 @@ use Rattle.spans.proofs.Circle.{Leads, ahead-leads, ahead-below, leads-back, l
 use Rattle.spans.proofs.Euclid.{Reach, reach, reach-other}
 
 -- a span of the one begins within a span of the other
-share-near : (g x T v y U w r : ℕ) → Reach T U g → 0 < v → Leads g x y r → r < w → Share x T v y U w
+pub share-near : (g x T v y U w r : ℕ) → Reach T U g → 0 < v → Leads g x y r → r < w → Share x T v y U w
 share-near g x T v y U w r reaches lasts leads near =
     let (a, b, e) = reaches (leads .i) (leads .j) in
     let meet = leads .meet in
@@ -23,13 +23,13 @@ share-other x T v y U w share =
     record { a = share .b; b = share .a; t = share .t; one = share .other; other = share .one }
 
 -- a span of the other begins within a span of the one
-share-far : (g x T v y U w r : ℕ) → Reach T U g → 0 < w → Leads g x y r → r ≤ g → g - r < v → Share x T v y U w
+pub share-far : (g x T v y U w r : ℕ) → Reach T U g → 0 < w → Leads g x y r → r ≤ g → g - r < v → Share x T v y U w
 share-far g x T v y U w r reaches lasts leads round near =
     share-other x T v y U w
     (share-near g y U w x T v (g - r) (reach-other T U g reaches) lasts (leads-back g x y r leads round) near)
 
 -- the spans lie apart
-share-apart : (g x T v y U w r : ℕ) → Divides g T → Divides g U → Leads g x y r → r < g → w ≤ r → v + r ≤ g → Share x T v y U w → ⊥
+pub share-apart : (g x T v y U w r : ℕ) → Divides g T → Divides g U → Leads g x y r → r < g → w ≤ r → v + r ≤ g → Share x T v y U w → ⊥
 share-apart g x T v y U w r (k, e) (l, f) leads below after before share =
     let a : ℕ = share .a in
     let b : ℕ = share .b in

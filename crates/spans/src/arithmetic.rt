@@ -2,11 +2,13 @@
 ghost use mathlib.Core.Path.{_≡_};
 ghost use Prim.Native.Nat.{_<_};
 ghost use Rattle.spans.specs.Divisors.{Greatest};
+ghost use Rattle.spans.specs.Formula.{gcd as formula};
 ghost use Rattle.spans.specs.Places.{ahead};
 
 // The greatest common divisor of m and n, by Euclid; that of 0 and 0 is 0.
 pub fn gcd(m: u32, n: u32) -> u32
     ensures greatest { λ g. ⌜ Greatest m n g ⌝ }
+    ensures is { λ g. ⌜ g ≡ formula m n ⌝ }
     ensures zero { λ g. ⌜ (g ≡ 0 → (m ≡ 0) × (n ≡ 0)) ⌝ }
 {
     let mut g = m;

@@ -1,6 +1,7 @@
 // Whether two sets of spans share an instant, and how far one has to move until they do not.
 ghost use mathlib.Core.Path.{_≡_};
 ghost use lib.Dec.{T};
+ghost use Rattle.spans.specs.Formula.{shares};
 ghost use Rattle.spans.specs.Overlap.{Shares, Clears};
 ghost use Rattle.spans.specs.declared.span.overlap.Clearance.{Clearance as Answer};
 use super::Spans;
@@ -20,6 +21,7 @@ pub enum Clearance {
 impl Spans {
     // Whether any span of one shares an instant with any span of the other.
     pub fn share(&self, other: &Spans) -> bool
+        ensures is { λ r. ⌜ r ≡ shares (now (self .entry) .first) (now (self .entry) .period) (now (self .entry) .wire) (now (other .entry) .first) (now (other .entry) .period) (now (other .entry) .wire) ⌝ }
         ensures only { λ r. ⌜ (T r → Shares (now (self .entry)) (now (other .entry))) ⌝ }
         ensures all { λ r. ⌜ (Shares (now (self .entry)) (now (other .entry)) → T r) ⌝ }
     {

@@ -2,6 +2,7 @@ use mathlib.Core.Path.{sym, subst}
 use Prim.Native.Nat.{ℕ}
 use Rattle.spans.specs.Divisors.{Greatest}
 use Rattle.spans.proofs.Euclid.{greatest-none, greatest-up, greatest-zero}
+use Rattle.spans.proofs.Formula.{gcd-unique}
 use Rattle.spans.proofs.arithmetic.gcd.Needs as need
 
 pub loop-rest-again : need.loop-rest-again
@@ -13,4 +14,4 @@ returns c =
     let last : Greatest g (c .loop-rest .rest) g =
     subst (λ (z : ℕ). Greatest g z g) (sym (c .loop-rest-test .left)) (greatest-zero g) in
     let great = c .loop-rest .inv g last in
-    record { greatest = great; zero = greatest-none (c .args .m) (c .args .n) g great }
+    record { greatest = great; is = gcd-unique (c .args .m) (c .args .n) g great; zero = greatest-none (c .args .m) (c .args .n) g great }

@@ -1,0 +1,6 @@
+pub mod Lists
+pub mod Setups
+pub mod Overlaps
+pub mod Gates
+pub mod Offers
+pub mod Promise
