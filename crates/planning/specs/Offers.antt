@@ -68,16 +68,18 @@ untimely net f = elim (overlong (f .period) 0 (f .hops)) [
   | None ↦ cond (ltb (f .deadline) (total net (f .hops))) (Some Deadline) None
 ]
 
--- the first refusal of an offer that comes before its start: of a line whose largest frame is `most`
-abbrev pub refusal : Network → ℕ → List Flow → Offered → Option PlanFault
-refusal net most flows x =
-    cond (held (x .number) flows) (Some NumberHeld)
-    (cond (leb 64 (length flows)) (Some Full)
-    (cond (not (regular (net .cycle) (x .period))) (Some Period)
+-- the first refusal that concerns the figures of an offer, whatever flows are held: of a line whose largest frame is `most`
+abbrev pub unfit : Network → ℕ → Offered → Option PlanFault
+unfit net most x =
+    cond (not (regular (net .cycle) (x .period))) (Some Period)
     (elim (misrouted (net .ports) [] 0 (x .route)) [
       | Some k ↦ Some (Route k)
       | None ↦ cond (ltb most (x .length)) (Some Length) (untimely net (flow net x 0))
-    ])))
+    ])
+
+-- the first refusal of an offer that comes before its start
+abbrev pub refusal : Network → ℕ → List Flow → Offered → Option PlanFault
+refusal net most flows x = cond (held (x .number) flows) (Some NumberHeld) (cond (leb 64 (length flows)) (Some Full) (unfit net most x))
 
 -- the start of a flow beside the flows: the chosen one if it is below the period and fits, or the earliest
 abbrev pub placed : List Flow → Option ℕ → Flow → Result ℕ PlanFault
