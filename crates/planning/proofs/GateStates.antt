@@ -14,7 +14,7 @@ use Rattle.network.specs.Flows.{Hop, Flow, Network, Well, Formed, guard}
 use Rattle.network.specs.Overlap.{first}
 use Rattle.network.specs.Gates.{Covered, Guarded, State, scheduled, closed, unscheduled}
 use Rattle.network.proofs.GateLists.{state-unique}
-use Rattle.planning.specs.Gates.{covered, guarded, state}
+use Rattle.planning.specs.Gates.{covered, guarded-by, guarded, state-by, state}
 use Rattle.planning.proofs.OnPort.{Some-on, Each-on, on-port-only, on-port-all, some-on-map}
 
 -- how far place y lies after the latest first instant of a flow's spans at a hop
@@ -42,18 +42,18 @@ module _ (flows : List Flow) (q y : ℕ) where
         absurd (bare (since-covered (record { j = j; k = k; f = f; h = h; flow = flow; hop = hop; port = port; holds = omega arith })))
   ]
 
-module _ (net : Network) (flows : List Flow) (q y : ℕ) where
+module _ (G : ℕ) (flows : List Flow) (q y : ℕ) where
   -- a place is guarded exactly when it lies at most G before a first instant of some hop on the port
-  pub guarded-until : T (guarded net flows q y) → Some-on flows q (λ f h. until f h y ≤ guard net q)
+  pub guarded-until : T (guarded-by G flows q y) → Some-on flows q (λ f h. until f h y ≤ G)
   guarded-until pass =
-      some-on-map (λ j k f h flow hop port. leb→le (until f h y) (guard net q)) (on-port-only (λ f h. leb (until f h y) (guard net q)) q flows pass)
+      some-on-map (λ j k f h flow hop port. leb→le (until f h y) G) (on-port-only (λ f h. leb (until f h y) G) q flows pass)
 
-  pub until-guarded : Some-on flows q (λ f h. until f h y ≤ guard net q) → T (guarded net flows q y)
+  pub until-guarded : Some-on flows q (λ f h. until f h y ≤ G) → T (guarded-by G flows q y)
   until-guarded some =
-      on-port-all (λ f h. leb (until f h y) (guard net q)) q flows (some-on-map (λ j k f h flow hop port. le→leb (until f h y) (guard net q)) some)
+      on-port-all (λ f h. leb (until f h y) G) q flows (some-on-map (λ j k f h flow hop port. le→leb (until f h y) G) some)
 
-  pub unguarded-until : ¬ T (guarded net flows q y) → Each-on flows q (λ f h. guard net q < until f h y)
-  unguarded-until free j k f h flow hop port = elim (decLt (guard net q) (until f h y)) [
+  pub unguarded-until : ¬ T (guarded-by G flows q y) → Each-on flows q (λ f h. G < until f h y)
+  unguarded-until free j k f h flow hop port = elim (decLt G (until f h y)) [
     | yes before ↦ before
     | no within ↦
         absurd (free (until-guarded (record { j = j; k = k; f = f; h = h; flow = flow; hop = hop; port = port; holds = omega arith })))
@@ -105,7 +105,7 @@ module _ (net : Network) (flows : List Flow) (q y : ℕ) (formed : Formed net fl
   -- the test of a guarded place
   pub guarded-only : T (guarded net flows q y) → Guarded net flows q y
   guarded-only pass =
-      let some = guarded-until net flows q y pass in
+      let some = guarded-until (guard net q) flows q y pass in
       let h = some .h in
       let well = formed .each (some .j) (some .f) (some .flow) in
       record {
@@ -123,7 +123,7 @@ module _ (net : Network) (flows : List Flow) (q y : ℕ) (formed : Formed net fl
   guarded-all some =
       let h = some .h in
       let well = formed .each (some .j) (some .f) (some .flow) in
-      until-guarded net flows q y (record {
+      until-guarded (guard net q) flows q y (record {
         j = some .j;
         k = some .k;
         f = some .f;
@@ -148,24 +148,24 @@ module _ (net : Network) (flows : List Flow) (q y : ℕ) (formed : Formed net fl
   pub state-alone : (s : ℕ) → State net flows q y s → s ≡ state net flows q y
   state-alone s is = state-unique is state-is
 
-module _ (net : Network) (flows : List Flow) (q y : ℕ) where
-  pub state-covered : T (covered flows q y) → state net flows q y ≡ 0x80
+module _ (G : ℕ) (flows : List Flow) (q y : ℕ) where
+  pub state-covered : T (covered flows q y) → state-by G flows q y ≡ 0x80
   state-covered pass = go (covered flows q y) pass
     where
-      go : (c : Bool) → T c → _≡_ {A = ℕ} (cond c 0x80 (cond (guarded net flows q y) 0x00 0x7f)) 0x80
+      go : (c : Bool) → T c → _≡_ {A = ℕ} (cond c 0x80 (cond (guarded-by G flows q y) 0x00 0x7f)) 0x80
       go true pass = refl
       go false pass = absurd pass
 
-  pub state-closed : ¬ T (covered flows q y) → T (guarded net flows q y) → state net flows q y ≡ 0x00
-  state-closed bare near = go (covered flows q y) (guarded net flows q y) bare near
+  pub state-closed : ¬ T (covered flows q y) → T (guarded-by G flows q y) → state-by G flows q y ≡ 0x00
+  state-closed bare near = go (covered flows q y) (guarded-by G flows q y) bare near
     where
       go : (c g : Bool) → ¬ T c → T g → _≡_ {A = ℕ} (cond c 0x80 (cond g 0x00 0x7f)) 0x00
       go true g bare near = absurd (bare tt)
       go false true bare near = refl
       go false false bare near = absurd near
 
-  pub state-open : ¬ T (covered flows q y) → ¬ T (guarded net flows q y) → state net flows q y ≡ 0x7f
-  state-open bare free = go (covered flows q y) (guarded net flows q y) bare free
+  pub state-open : ¬ T (covered flows q y) → ¬ T (guarded-by G flows q y) → state-by G flows q y ≡ 0x7f
+  state-open bare free = go (covered flows q y) (guarded-by G flows q y) bare free
     where
       go : (c g : Bool) → ¬ T c → ¬ T g → _≡_ {A = ℕ} (cond c 0x80 (cond g 0x00 0x7f)) 0x7f
       go true g bare free = absurd (bare tt)

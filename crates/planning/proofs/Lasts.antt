@@ -1,137 +1,111 @@
 -- For how long the state at a place lasts: until the last span that covers it ends, or the next one or its guard band begins.
 -- Assumes nothing.
-use mathlib.Core.Path.{_≡_, subst}
+use mathlib.Core.Path.{_≡_}
 use mathlib.Core.List.{List}
 use Prim.Native.Nat.{ℕ, _+_, _-_, _≤_, _<_}
 use native.Mathlib.Decide.{decLt}
 use native.Mathlib.Omega.{arith}
 use lib.Dec.{T}
-use Rattle.spans.proofs.Circle.{ahead-zero, until-later, since-later, since-before, since-next}
-use Rattle.network.specs.Flows.{Flow, Network, Formed, guard}
+use Rattle.spans.proofs.Circle.{ahead-zero, until-later, since-later, since-before}
+use Rattle.network.specs.Flows.{Hop, Flow, Network, Formed}
 use Rattle.network.specs.Overlap.{first}
-use Rattle.planning.specs.Gates.{covered, guarded, state}
+use Rattle.planning.specs.Gates.{covered, guarded-by, state-by, Lasts}
 use Rattle.planning.proofs.OnPort.{Some-on, Each-on, at-some, some-on-map}
 use Rattle.planning.proofs.GateStates.{since, until, covered-since, since-covered, guarded-until, until-guarded, state-covered, state-closed, state-open}
 
--- at each of the n places from y on the state is s
-abbrev pub Lasts : (ℕ → ℕ) → ℕ → ℕ → ℕ → Type 0
-Lasts states y n s = (k : ℕ) → k < n → states (y + k) ≡ s
+-- spans of a flow at a hop: each lasts at least 1, and at most until the next begins
+pub record Repeats (f : Flow) (h : Hop) : Type 0 where
+  pub some : 0 < h .wire
+  pub within : h .wire ≤ f .period
+
+-- those of well-formed flows do
+pub formed-repeats : {net : Network} {flows : List Flow} → Formed net flows → (q : ℕ) → Each-on flows q Repeats
+formed-repeats formed q j k f h flow hop port =
+    let carried = formed .each j f flow .carried k h hop in
+    record { some = carried .some; within = carried .within }
 
 -- no span on port q covers place y
 abbrev pub Bare : List Flow → ℕ → ℕ → Type 0
 Bare flows q y = Each-on flows q (λ f h. h .wire ≤ since f h y)
 
--- the next first instant on port q lies n places after y
-pub record Next (flows : List Flow) (q y n : ℕ) : Type 0 where
-  pub some : Some-on flows q (λ f h. until f h y ≡ n)
-  pub least : Each-on flows q (λ f h. n ≤ until f h y)
+-- no first instant on port q lies less than n places after y
+abbrev pub Free : List Flow → ℕ → ℕ → ℕ → Type 0
+Free flows q y n = Each-on flows q (λ f h. n ≤ until f h y)
 
-pub bare-uncovered : (flows : List Flow) (q y : ℕ) → Bare flows q y → ¬ T (covered flows q y)
+-- some first instant on port q lies n places after y
+abbrev pub Comes : List Flow → ℕ → ℕ → ℕ → Type 0
+Comes flows q y n = Some-on flows q (λ f h. until f h y ≡ n)
+
+bare-uncovered : (flows : List Flow) (q y : ℕ) → Bare flows q y → ¬ T (covered flows q y)
 bare-uncovered flows q y bare pass =
     let some = covered-since flows q y pass in
     let after = at-some bare some in
     let within = some .holds in
     omega arith
 
-module _ (net : Network) (flows : List Flow) (q y n : ℕ) where
-  -- a place is guarded exactly when the next first instant lies at most G further on
-  pub next-guarded : Next flows q y n → n ≤ guard net q → T (guarded net flows q y)
-  next-guarded next near = until-guarded net flows q y (some-on-map (λ j k f h flow hop port at. omega arith) (next .some))
+free-unguarded : (G : ℕ) (flows : List Flow) (q y n : ℕ) → Free flows q y n → G < n → ¬ T (guarded-by G flows q y)
+free-unguarded G flows q y n free far pass =
+    let some = guarded-until G flows q y pass in
+    let least = at-some free some in
+    let within = some .holds in
+    omega arith
 
-  pub next-unguarded : Next flows q y n → guard net q < n → ¬ T (guarded net flows q y)
-  next-unguarded next far pass =
-      let some = guarded-until net flows q y pass in
-      let least = at-some (next .least) some in
-      let within = some .holds in
-      omega arith
-
-  -- on a port without hops every place is open
-  pub none-lasts : Each-on flows q (λ f h. ⊥) → Lasts (state net flows q) y n 0x7f
-  none-lasts none k less =
-      state-open net flows q (y + k)
-      (λ pass. at-some none (covered-since flows q (y + k) pass))
-      (λ pass. at-some none (guarded-until net flows q (y + k) pass))
-
-module _ {net : Network} {flows : List Flow} (formed : Formed net flows) (q y n : ℕ) where
+module _ {flows : List Flow} (q : ℕ) (repeats : Each-on flows q Repeats) (G y n : ℕ) where
   -- a place stays covered as long as a span that covers it goes on
-  pub covered-lasts : Some-on flows q (λ f h. since f h y + n ≤ h .wire) → Lasts (state net flows q) y n 0x80
+  pub covered-lasts : Some-on flows q (λ f h. since f h y + n ≤ h .wire) → Lasts (state-by G flows q) y n 0x80
   covered-lasts some k less =
-      state-covered net flows q (y + k) (since-covered flows q (y + k) (some-on-map (λ j i f h flow hop port within.
-      let carried = formed .each j f flow .carried i h hop in
+      state-covered G flows q (y + k) (since-covered flows q (y + k) (some-on-map (λ j i f h flow hop port within.
+      let spans = repeats j i f h flow hop port in
       let on = since-later (f .period) (first f h) y k (omega arith) in
       omega arith) some))
 
-  -- the next first instant is not at a place that is not covered, since spans last at least 1
-  pub next-some : Bare flows q y → Next flows q y n → 0 < n
-  next-some bare next = elim (decLt 0 n) [
+  -- no first instant is at a place that is not covered, since spans last at least 1
+  pub comes-later : Bare flows q y → Comes flows q y n → 0 < n
+  comes-later bare comes = elim (decLt 0 n) [
     | yes some ↦ some
     | no none ↦
-        let on = next .some in
-        let f = on .f in
-        let h = on .h in
-        let well = formed .each (on .j) f (on .flow) in
-        let carried = well .carried (on .k) h (on .hop) in
-        let at = on .holds in
+        let f = comes .f in
+        let h = comes .h in
+        let spans = at-some repeats comes in
+        let at = comes .holds in
         let start = ahead-zero (f .period) (first f h) y (omega arith) (omega arith) in
-        let after = at-some bare on in
+        let after = at-some bare comes in
         absurd (omega arith)
   ]
 
-  -- the place of the next first instant is covered
-  pub next-covered : Next flows q y n → state net flows q (y + n) ≡ 0x80
-  next-covered next =
-      state-covered net flows q (y + n) (since-covered flows q (y + n) (some-on-map (λ j k f h flow hop port at.
-      let well = formed .each j f flow in
-      let carried = well .carried k h hop in
-      let start = subst (λ (z : ℕ). since f h (y + z) ≡ 0) at (since-next (f .period) (first f h) y (omega arith)) in
-      omega arith) (next .some)))
-
   -- before the next first instant no place is covered either ..
-  pub bare-before : Bare flows q y → Next flows q y n → (k : ℕ) → k < n → Bare flows q (y + k)
-  bare-before bare next k less j i f h flow hop port =
-      let well = formed .each j f flow in
-      let least = next .least j i f h flow hop port in
+  bare-before : Bare flows q y → Free flows q y n → (k : ℕ) → k < n → Bare flows q (y + k)
+  bare-before bare free k less j i f h flow hop port =
+      let spans = repeats j i f h flow hop port in
+      let least = free j i f h flow hop port in
       let on = since-before (f .period) (first f h) y k (omega arith) (omega arith) in
       let was = bare j i f h flow hop port in
       omega arith
 
   -- .. and it lies as much nearer
-  pub next-later : Next flows q y n → (k : ℕ) → k ≤ n → Next flows q (y + k) (n - k)
-  next-later next k le =
-      record {
-        some = some-on-map (λ j i f h flow hop port at.
-            let well = formed .each j f flow in
-            let on = until-later (f .period) (first f h) y k (omega arith) (omega arith) in
-            omega arith) (next .some);
-        least = λ j i f h flow hop port.
-            let well = formed .each j f flow in
-            let least = next .least j i f h flow hop port in
-            let on = until-later (f .period) (first f h) y k (omega arith) (omega arith) in
-            omega arith;
-      }
+  free-later : Free flows q y n → (k : ℕ) → k ≤ n → Free flows q (y + k) (n - k)
+  free-later free k le j i f h flow hop port =
+      let spans = repeats j i f h flow hop port in
+      let least = free j i f h flow hop port in
+      let on = until-later (f .period) (first f h) y k (omega arith) (omega arith) in
+      omega arith
 
--- .. so up to it the guard band alone decides
-module _ {net : Network} {flows : List Flow} (formed : Formed net flows) (q y n : ℕ) (bare : Bare flows q y) (next : Next flows q y n) where
-  pub before-closed : (k : ℕ) → k < n → n - k ≤ guard net q → state net flows q (y + k) ≡ 0x00
-  before-closed k less near =
-      state-closed net flows q (y + k)
-      (bare-uncovered flows q (y + k) (bare-before formed q y n bare next k less))
-      (next-guarded net flows q (y + k) (n - k) (next-later formed q y n next k (omega arith)) near)
+  comes-nearer : Comes flows q y n → (k : ℕ) → k ≤ n → Comes flows q (y + k) (n - k)
+  comes-nearer comes k le = some-on-map (λ j i f h flow hop port at.
+      let spans = repeats j i f h flow hop port in
+      let on = until-later (f .period) (first f h) y k (omega arith) (omega arith) in
+      omega arith) comes
 
-  pub before-open : (k : ℕ) → k < n → guard net q < n - k → state net flows q (y + k) ≡ 0x7f
-  before-open k less far =
-      state-open net flows q (y + k)
-      (bare-uncovered flows q (y + k) (bare-before formed q y n bare next k less))
-      (next-unguarded net flows q (y + k) (n - k) (next-later formed q y n next k (omega arith)) far)
+  -- so in the guard band the place stays closed up to the next first instant
+  pub closed-lasts : Bare flows q y → Free flows q y n → Comes flows q y n → n ≤ G → Lasts (state-by G flows q) y n 0x00
+  closed-lasts bare free comes near k less =
+      state-closed G flows q (y + k)
+      (bare-uncovered flows q (y + k) (bare-before bare free k less))
+      (until-guarded G flows q (y + k) (some-on-map (λ j i f h flow hop port at. omega arith) (comes-nearer comes k (omega arith))))
 
-  -- in the guard band the place stays closed up to the next first instant
-  pub closed-lasts : n ≤ guard net q → Lasts (state net flows q) y n 0x00
-  closed-lasts near k less = before-closed k less (omega arith)
-
-  -- before it the place stays open up to the guard band ..
-  pub open-lasts : guard net q < n → Lasts (state net flows q) y (n - guard net q) 0x7f
-  open-lasts far k less = before-open k (omega arith) (omega arith)
-
-  -- .. which follows, if it is not 0; if it is, the next first instant follows
-  pub open-ends : guard net q < n → 0 < guard net q → state net flows q (y + (n - guard net q)) ≡ 0x00
-  open-ends far some = before-closed (n - guard net q) (omega arith) (omega arith)
+  -- and before it the place stays open up to the guard band
+  pub open-lasts : Bare flows q y → Free flows q y n → Lasts (state-by G flows q) y (n - G) 0x7f
+  open-lasts bare free k less =
+      state-open G flows q (y + k)
+      (bare-uncovered flows q (y + k) (bare-before bare free k (omega arith)))
+      (free-unguarded G flows q (y + k) (n - k) (free-later free k (omega arith)) (omega arith))

@@ -11,7 +11,7 @@ pub mod OnPort
 pub mod GateStates
 pub mod GateLists
 pub mod Lasts
-pub mod Appended
+pub mod Stretches
 pub mod Counts
 pub mod Marks
 pub mod GateCounts

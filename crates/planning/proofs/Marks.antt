@@ -135,7 +135,7 @@ module _ {net : Network} {flows : List Flow} (formed : Formed net flows) (q y : 
       go : T (covered flows q y) ⊎ ¬ T (covered flows q y) → T (covered flows q (suc y)) ⊎ ¬ T (covered flows q (suc y)) →
           T (guarded net flows q y) ⊎ ¬ T (guarded net flows q y) → T (guarded net flows q (suc y)) ⊎ ¬ T (guarded net flows q (suc y)) →
           Some-on flows q (λ f h. T (marked (guard net q) f h y))
-      go (inl was) (inl is) g g′ = absurd (still 0x80 (state-covered net flows q y was) (state-covered net flows q (suc y) is))
+      go (inl was) (inl is) g g′ = absurd (still 0x80 (state-covered (guard net q) flows q y was) (state-covered (guard net q) flows q (suc y) is))
       go (inl was) (inr bare) g g′ = some-on-map (λ j k f h flow hop port within.
           let well = formed .each j f flow in
           let after = uncovered-since flows q (suc y) bare j k f h flow hop port in
@@ -151,22 +151,22 @@ module _ {net : Network} {flows : List Flow} (formed : Formed net flows) (q y : 
             | inr on ↦ absurd (omega arith)
           ]) (covered-since flows q (suc y) is)
       go (inr bare) (inr bare′) (inl near) (inl near′) =
-          absurd (still 0x00 (state-closed net flows q y bare near) (state-closed net flows q (suc y) bare′ near′))
+          absurd (still 0x00 (state-closed (guard net q) flows q y bare near) (state-closed (guard net q) flows q (suc y) bare′ near′))
       go (inr bare) (inr bare′) (inl near) (inr free) = some-on-map (λ j k f h flow hop port within.
           let well = formed .each j f flow in
           let carried = well .carried k h hop in
           let after = uncovered-since flows q y bare j k f h flow hop port in
-          let before = unguarded-until net flows q (suc y) free j k f h flow hop port in
+          let before = unguarded-until (guard net q) flows q (suc y) free j k f h flow hop port in
           elim (until-step (f .period) (first f h) y (omega arith)) [
             | inl start ↦ let at = ahead-zero (f .period) (first f h) y (omega arith) start in absurd (omega arith)
             | inr on ↦ absurd (omega arith)
-          ]) (guarded-until net flows q y near)
+          ]) (guarded-until (guard net q) flows q y near)
       go (inr bare) (inr bare′) (inr free) (inl near) = some-on-map (λ j k f h flow hop port within.
           let well = formed .each j f flow in
-          let before = unguarded-until net flows q y free j k f h flow hop port in
+          let before = unguarded-until (guard net q) flows q y free j k f h flow hop port in
           elim (until-step (f .period) (first f h) y (omega arith)) [
             | inl start ↦ absurd (omega arith)
             | inr on ↦ mark-neared (guard net q) f h y (omega arith)
-          ]) (guarded-until net flows q (suc y) near)
+          ]) (guarded-until (guard net q) flows q (suc y) near)
       go (inr bare) (inr bare′) (inr free) (inr free′) =
-          absurd (still 0x7f (state-open net flows q y bare free) (state-open net flows q (suc y) bare′ free′))
+          absurd (still 0x7f (state-open (guard net q) flows q y bare free) (state-open (guard net q) flows q (suc y) bare′ free′))
