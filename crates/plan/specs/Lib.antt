@@ -1,0 +1,15 @@
+pub mod Alike
+pub mod Calls
+pub mod Figures
+pub mod GateOctets
+pub mod Looks
+pub mod Models
+pub mod Moves
+pub mod Offers
+pub mod Plans
+pub mod Ports
+pub mod Promise
+pub mod Rows
+pub mod Setups
+pub mod Steps
+pub mod Timings

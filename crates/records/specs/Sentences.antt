@@ -1,0 +1,14 @@
+-- The text that a record's fault prints.
+-- Assumes nothing.
+use Prim.Native.Nat.{ℕ}
+use mathlib.Core.List.{List, _++_}
+use lib.Chars.{codes}
+use Rattle.std.specs.Written.{decimal}
+use Rattle.fault.specs.Refusals.{refused}
+use Rattle.fault.specs.Sentences.{sentence}
+use Rattle.fault.specs.declared.kinds.PlanFault.the-variants.{Record}
+use Rattle.fault.specs.declared.kinds.RecordFault.{RecordFault}
+
+-- the fault's number, then its sentence
+abbrev pub faultText : RecordFault → List ℕ
+faultText f = codes "fault " ++ (decimal (refused (Record f) .number) ++ (codes ": " ++ sentence (Record f)))

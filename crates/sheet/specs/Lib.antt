@@ -1,0 +1,9 @@
+pub mod Fields
+pub mod Flows
+pub mod Gates
+pub mod Limits
+pub mod Ports
+pub mod RoundTrips
+pub mod Sheets
+pub mod Texts
+pub mod Writings

@@ -1,0 +1,37 @@
+// Sheets of records: the record kinds, their fields, and the reader of a sheet.
+mod field;
+mod flow;
+mod gate;
+mod kind;
+mod limited;
+mod port;
+mod reader;
+mod text;
+mod writer;
+
+pub use flow::FlowKind;
+pub use flow::FlowRecord;
+pub use flow::FlowRecordDebug;
+pub use flow::FlowRecordPartialEq;
+pub use flow::Start;
+pub use flow::StartDebug;
+pub use flow::StartPartialEq;
+pub use gate::GateKind;
+pub use gate::GateRecord;
+pub use gate::GateRecordDebug;
+pub use gate::GateRecordPartialEq;
+pub use gate::GateState;
+pub use gate::GateStateDebug;
+pub use gate::GateStatePartialEq;
+pub use kind::RecordKind;
+pub use port::PortKind;
+pub use port::PortRecord;
+pub use port::PortRecordDebug;
+pub use port::PortRecordPartialEq;
+pub use reader::Reader;
+pub use reader::whole_records;
+pub use text::FlowRecordDisplay;
+pub use text::GateRecordDisplay;
+pub use text::PortRecordDisplay;
+pub use text::StartDisplay;
+pub use writer::write_sheet;
