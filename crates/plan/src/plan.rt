@@ -18,6 +18,7 @@ use line::Line;
 
 // Its line, what it was set up with, and its rows: no two flows of one number, no start that is not below its period,
 // no two spans that overlap.
+#[derive(Drop)]
 pub struct Plan<L: Line> {
     line: L,
     setup: Option<Setup>,

@@ -15,12 +15,14 @@ use line::Line;
 use std::alloc::Global;
 
 // The plan after a list of calls, and what each of them answered.
+#[derive(Drop)]
 pub struct Performed<L: Line> {
     pub plan: Plan<L>,
     pub answers: Vec<Answer>,
 }
 
 // There is no memory for the answers: no call was made, and the line comes back.
+#[derive(Drop)]
 pub struct NoMemory<L> {
     pub line: L,
 }

@@ -1,0 +1,7 @@
+// Tests of the plan on worked cases.
+#[cfg(test)]
+mod case;
+#[cfg(test)]
+mod edges;
+#[cfg(test)]
+mod records;
