@@ -1,4 +1,5 @@
 // The worked case: two ports at 1,000 Mb/s, cycle 1,000,000, flows 7, 9 and 11.
+use crate::records::check_list;
 use crate::records::flow;
 use crate::records::gigabit;
 use crate::records::offer;
@@ -6,16 +7,10 @@ use crate::records::offer_at;
 use fault::PlanFault;
 use fault::PlanFaultDebug;
 use fault::PlanFaultPartialEq;
-use fault::RecordFaultDebug;
 use line::Ethernet;
 use line::EthernetLine;
 use plan::Plan;
-use sheet::GateKind;
-use sheet::GateRecord;
-use sheet::GateRecordDebug;
-use sheet::GateRecordPartialEq;
 use sheet::GateState;
-use sheet::Reader;
 use std::test::*;
 
 // Flows 7 and 9 held.
@@ -55,16 +50,7 @@ fn gate_list_of_port_1() -> Result<(), Fail> {
         (GateState::BestEffort, 486_896),
         (GateState::Closed, 10_276),
     ];
-    for (k, (state, duration)) in expected.iter().enumerate() {
-        let found: GateRecord = Reader::new(&buffer, k).read()?;
-        check_eq(
-            found,
-            GateRecord {
-                state: *state,
-                duration: *duration,
-            },
-        )?;
-    }
+    check_list(&buffer, &expected)?;
     check(buffer[0..10] == [0, 0, 0, 0x07, 0xac, 0x80, 0, 0, 0x22, 0xe0])?;
     check(buffer[35..40] == [0xaa; 5])?;
     check_eq(plan.gate_list(2, &mut buffer), Err(PlanFault::NoPort))?;

@@ -4,4 +4,6 @@ mod case;
 #[cfg(test)]
 mod edges;
 #[cfg(test)]
+mod odd;
+#[cfg(test)]
 mod records;

@@ -1,15 +1,23 @@
 // Records made for the tests, and offers of them.
 use fault::PlanFault;
+use fault::RecordFaultDebug;
 use line::Ethernet;
 use line::EthernetLine;
 use line::Line;
 use plan::Plan;
 use sheet::FlowKind;
 use sheet::FlowRecord;
+use sheet::GateKind;
+use sheet::GateRecord;
+use sheet::GateRecordDebug;
+use sheet::GateRecordPartialEq;
+use sheet::GateState;
 use sheet::PortKind;
 use sheet::PortRecord;
+use sheet::Reader;
 use sheet::RecordKind;
 use sheet::Start;
+use std::test::*;
 
 // A flow of a number, with no start chosen.
 pub fn flow(number: u16, length: u16, period: u32, deadline: u32, route: &[u8]) -> FlowRecord {
@@ -77,4 +85,19 @@ pub fn gigabit(cycle: u32) -> Result<Plan<Ethernet>, PlanFault> {
             best_effort: 1_522,
         },
     )
+}
+
+// The records at the front of a buffer are these states with their durations.
+pub fn check_list(buffer: &[u8], expected: &[(GateState, u32)]) -> Result<(), Fail> {
+    for (k, (state, duration)) in expected.iter().enumerate() {
+        let found: GateRecord = Reader::new(buffer, k).read()?;
+        check_eq(
+            found,
+            GateRecord {
+                state: *state,
+                duration: *duration,
+            },
+        )?;
+    }
+    Ok(())
 }
