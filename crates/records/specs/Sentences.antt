@@ -9,6 +9,8 @@ use Rattle.fault.specs.Sentences.{sentence}
 use Rattle.fault.specs.declared.kinds.PlanFault.the-variants.{Record}
 use Rattle.fault.specs.declared.kinds.RecordFault.{RecordFault}
 
--- the fault's number, then its sentence
+-- the fault's number, its record and bit, then its sentence
 abbrev pub faultText : RecordFault → List ℕ
-faultText f = codes "fault " ++ (decimal (refused (Record f) .number) ++ (codes ": " ++ sentence (Record f)))
+faultText f =
+    let r = refused (Record f) in
+    codes "fault " ++ (decimal (r .number) ++ (codes " at record " ++ (decimal (r .place .index) ++ (codes ", bit " ++ (decimal (r .place .bit) ++ (codes ": " ++ sentence (Record f)))))))

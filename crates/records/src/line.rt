@@ -12,12 +12,15 @@ use fault::RecordFaultDisplay;
 use std::alloc::AllocError;
 use std::alloc::Global;
 
-// A fault with its number.
+// A fault with its number and its place.
 pub fn fault_text(heap: Global, fault: RecordFault) -> Result<String, AllocError>
     ensures made { λ r. ⌜ made r (λ t. string-bytes t ≡ faultText fault) ⌝ }
 {
-    let number = fault.refusal().number;
-    format!(heap, "fault {number}: {fault}")
+    let refusal = fault.refusal();
+    let number = refusal.number;
+    let index = refusal.place.index;
+    let bit = refusal.place.bit;
+    format!(heap, "fault {number} at record {index}, bit {bit}: {fault}")
 }
 
 // Adds one line.

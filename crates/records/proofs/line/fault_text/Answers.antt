@@ -9,10 +9,10 @@ use Rattle.records.proofs.line.fault_text.Needs as need
 
 pub returns : need.returns
 returns c =
-    let told = c .refusal-number .ensures .value in
+    let told = c .refusal-refusal .ensures .value in
     record {
       made =
           made-weaker (c .format .result) _ _
-          (λ t e. e ∙ (λ i. codes "fault " ++ (decimal (told i .number) ++ (codes ": " ++ sentence (Record (c .args .fault))))))
+          (λ t e. e ∙ (λ i. codes "fault " ++ (decimal (told i .number) ++ (codes " at record " ++ (decimal (told i .place .index) ++ (codes ", bit " ++ (decimal (told i .place .bit) ++ (codes ": " ++ sentence (Record (c .args .fault))))))))))
           (c .format .ensures .made);
     }
