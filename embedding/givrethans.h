@@ -1,7 +1,7 @@
 /*
  * Givrethans for a program in C: calls of a planner and their answers, in octets.
  *
- * Link with the static library of the crate `interface` (`rt staticlib interface`). The functions take no memory
+ * Link with libinterface.a, the static library that `embedding/library` writes. The functions take no memory
  * from the heap and keep nothing from one call to the next.
  *
  * A list of calls is calls back to back. Every number has its most significant octet first:

@@ -1,4 +1,4 @@
-//! Tells the linker where `rt staticlib interface` has written its library.
+//! Tells the linker where `embedding/library` has written the static library.
 
 use std::env;
 use std::path::Path;

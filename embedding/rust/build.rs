@@ -1,4 +1,4 @@
-//! Links the static library that `rt staticlib interface` writes.
+//! Links the static library that `embedding/library` writes.
 use std::env;
 
 fn main() {

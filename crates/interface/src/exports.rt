@@ -1,4 +1,4 @@
-// The functions that a program in C links with.
+// Calls in octets on a plan on either line.
 ghost use Rattle.std.specs.Prelude.{◌≡◌, negsuc};
 ghost use Rattle.line.specs.Fillings.{Codes, Cells};
 ghost use Rattle.interface.specs.Lines.{ethernet, cells};
@@ -11,8 +11,7 @@ use crate::perform::performed;
 const NO_LINE: i64 = -1;
 
 // Calls on a plan on an Ethernet line with these rate codes.
-#[unsafe(no_mangle)]
-pub extern "C" fn givrethans_perform_ethernet(
+pub fn givrethans_perform_ethernet(
     codes: &[u8],
     calls: &[u8],
     answers: &mut [u8],
@@ -28,8 +27,7 @@ pub extern "C" fn givrethans_perform_ethernet(
 }
 
 // Calls on a plan on a cell line with these figures.
-#[unsafe(no_mangle)]
-pub extern "C" fn givrethans_perform_cells(
+pub fn givrethans_perform_cells(
     ports: u8,
     cell_size: u16,
     cell_time: u32,
