@@ -1,4 +1,6 @@
 // Prints the gate list of each port of the plan of an input, readably and as octets.
+#![tactic(auto)]
+
 use anyhow::anyhow;
 use report::gate_lists;
 use std::env;

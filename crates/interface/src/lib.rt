@@ -1,4 +1,6 @@
 // The planner for a program in C: a list of calls in octets, performed on a new plan.
+#![tactic(auto)]
+
 mod answer;
 mod exports;
 mod formats;

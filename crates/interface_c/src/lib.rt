@@ -1,5 +1,6 @@
 // The functions that a program in C links with: the static library of the planner.
 #![tactic(auto)]
+
 ghost use Rattle.std.specs.Prelude.{◌≡◌, negsuc};
 ghost use Rattle.line.specs.Fillings.{Codes, Cells};
 ghost use Rattle.interface.specs.Lines.{ethernet, cells};

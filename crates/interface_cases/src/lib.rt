@@ -1,3 +1,5 @@
 // Tests of the interface on the worked case.
+#![tactic(auto)]
+
 #[cfg(test)]
 mod case;

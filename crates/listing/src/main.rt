@@ -1,4 +1,6 @@
 // Prints the listing of the input on the standard input, or how to make an input.
+#![tactic(auto)]
+
 use anyhow::anyhow;
 use report::listing;
 use std::env;

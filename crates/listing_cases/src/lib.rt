@@ -1,4 +1,6 @@
 // Tests of the listing and of the gate lists on inputs worked out by hand.
+#![tactic(auto)]
+
 #[cfg(test)]
 mod cuts;
 #[cfg(test)]

@@ -1,4 +1,6 @@
 // What is printed of an input: the listing of its flows, and the gate lists of its ports.
+#![tactic(auto)]
+
 mod calls;
 mod gates;
 mod hex;
