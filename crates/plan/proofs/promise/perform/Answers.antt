@@ -12,8 +12,8 @@ use Rattle.plan.proofs.Called.{same_of}
 use Rattle.plan.proofs.CallsInOrder.{step-performed, after-all, replies-all, buffered-all}
 use Rattle.plan.proofs.promise.perform.Goals as goal
 
-pub returns-in-default : goal.returns-in-default
-returns-in-default g c =
+pub returns-in_default : goal.returns-in_default
+returns-in_default g c =
     let x = c.args.line in
     let met = g.met.L.Line in
     let w = wires g.L.Line.most (g.L.Line.meaning x) in
@@ -46,7 +46,7 @@ loop-call-preserved g c =
     let left = subst (λ (v : Wires). Alike (model c.call.new.self.setup c.call.new.self.rows) (next v m call)) same does.after in
     let step = step-performed w rules cs i call below (get_or_default cs i _ call below) (length c.args.buffer.now) c.args.buffer.now m (vec_items c.loop-call.answers) c.loop-call.buffer
     inv.1 inv.2 inv.3 (model c.call.new.self.setup c.call.new.self.rows) c.call.result c.call.new.buffer left replied wrote in
-    let pushed = c.push-reserved.ensures in
+    let pushed = c.push_reserved.ensures in
     let long = inv.4 in
     let room = inv.5 in
     (does.line ∙ inv.0, step.0, pushed.items ∙ step.1, step.2, omega arith, omega arith)

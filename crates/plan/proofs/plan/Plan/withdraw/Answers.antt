@@ -19,20 +19,20 @@ done : Result ℕ PlanFault → Result (Unit {0}) PlanFault
 done (Ok s) = Ok tt
 done (Err e) = Err e
 
-pub returns-in-default-find : goal.returns-in-default-find
+pub returns-in_default-find : goal.returns-in_default-find
 unfolding done
-returns-in-default-find g c =
+returns-in_default-find g c =
     let plan = c.args.self.now in
     let n = c.args.number in
-    let asked = start-answered (model plan.setup plan.rows) (stored.setup c.in-Some.field-0) n None (ap setup c.in-Some.is) (start_none n _ c.in-default-find.ensures.cases) in
+    let asked = start-answered (model plan.setup plan.rows) (stored.setup c.in-Some.field-0) n None (ap setup c.in-Some.is) (start_none n _ c.in_default-find.ensures.cases) in
     record { value = sym (ap done asked); line = refl; setup = refl; after = refl }
 
-pub invariant-of-self : goal.invariant-of-self
-invariant-of-self g c =
+pub invariant_of-self : goal.invariant_of-self
+invariant_of-self g c =
     let plan = c.args.self.now in
     let k = c.in-Some-find.k in
-    let new = c.no-row.result in
-    let is = c.no-row.ensures.value in
+    let new = c.no_row.result in
+    let is = c.no_row.ensures.value in
     let long = plan.long in
     let found = c.in-Some-find.ensures.cases in
     let below : k < 64 = omega arith in
@@ -49,7 +49,7 @@ returns g c =
     let plan = c.args.self.now in
     let n = c.args.number in
     let k = c.in-Some-find.k in
-    let new = c.no-row.result in
+    let new = c.no_row.result in
     let found = c.in-Some-find.ensures.cases in
     let long = plan.long in
     let asked = start-answered (model plan.setup plan.rows) (stored.setup c.in-Some.field-0) n (Some _) (ap setup c.in-Some.is) (start-found n plan.rows k found.0 found.1 found.2) in
@@ -57,6 +57,6 @@ returns g c =
       value = sym (ap done asked);
       line = refl;
       setup = refl;
-      after = flows_removed n plan.rows k new found.0 found.1 (ap (λ (r : Row). r.state) c.no-row.ensures.value)
+      after = flows_removed n plan.rows k new found.0 found.1 (ap (λ (r : Row). r.state) c.no_row.ensures.value)
           (only_row n plan.rows k plan.long plan.numbers found.0 found.1 found.2);
     }
