@@ -1,4 +1,6 @@
 // What a plan answers to an offer, and what is promised of the flows that it holds.
+#![tactic(auto)]
+
 ghost use Rattle.planning.specs.Laws.{OverlapDecided, FitDecided, EarliestFound, StatesDecided, GatesListed, GatesFew};
 ghost use Rattle.planning.specs.Promise.{Promised, OffersKeep};
 
