@@ -46,7 +46,15 @@ invariant_of-self g c =
     (two-added Overlap rows k new long below
     (λ j within busy overlap. let at = flows-at rows j (omega arith) busy in clear at.0 _ at.1 overlap)
     (λ j within busy overlap. let at = flows-at rows j (omega arith) busy in clear at.0 _ at.1 (overlap-sym overlap))) in
-    (laws.long, (laws_starts laws, (laws_counts laws, (laws-hops laws, (laws.numbers, (laws.apart, (λ unset. never_both c.in-Some.is unset, tt)))))))
+    record {
+      long = laws.long;
+      starts = laws_starts laws;
+      counts = laws_counts laws;
+      hops = laws-hops laws;
+      numbers = laws.numbers;
+      apart = laws.apart;
+      waiting = λ unset. never_both c.in-Some.is unset;
+    }
 
 pub returns : goal.returns
 returns g c =

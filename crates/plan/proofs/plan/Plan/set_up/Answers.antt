@@ -86,7 +86,13 @@ invariant_of-self g c =
     let figured = (records g (goal.at.invariant_of-self g c).In_ok-figures).figured in
     let few = g.met.L.Line.few c.args.self.now.line in
     let count = c.if-figures-from.false ∙ c.from.ensures ∙ c.ports.ensures.value in
-    (c.if-cycle-lt-LEAST_CYCLE.false, (c.if-cycle-gt-GREATEST_CYCLE.false, (omega arith, (figured.long, (λ q below. figured.delays q, tt)))))
+    record {
+      least = c.if-cycle-lt-LEAST_CYCLE.false;
+      greatest = c.if-cycle-gt-GREATEST_CYCLE.false;
+      few = omega arith;
+      long = figured.long;
+      delays = λ q below. figured.delays q;
+    }
 
 pub returns : goal.returns
 unfolding told

@@ -41,7 +41,15 @@ invariant_of-self g c =
     let laws = laws-set plan.rows k new below (laws_of plan.rows plan.long plan.starts plan.counts plan.hops plan.numbers plan.apart) kept
     (two_freed Namesakes plan.rows k new long below freed) (two_freed Overlap plan.rows k new long below freed) in
     let ready = c.in-Some.is in
-    (laws.long, (laws_starts laws, (laws_counts laws, (laws-hops laws, (laws.numbers, (laws.apart, (λ unset. never_both ready unset, tt)))))))
+    record {
+      long = laws.long;
+      starts = laws_starts laws;
+      counts = laws_counts laws;
+      hops = laws-hops laws;
+      numbers = laws.numbers;
+      apart = laws.apart;
+      waiting = λ unset. never_both ready unset;
+    }
 
 pub returns : goal.returns
 unfolding done
