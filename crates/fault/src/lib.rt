@@ -1,4 +1,6 @@
 // What a refusal is: a sheet's fault inside a record's, a record's inside a plan's, and what each tells.
+#![tactic(auto)]
+
 mod kinds;
 mod refusal;
 #[cfg(test)]

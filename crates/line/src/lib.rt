@@ -1,4 +1,6 @@
 // What a wire costs: the trait that every line keeps, and the two kinds of line that are built.
+#![tactic(auto)]
+
 mod cell;
 mod ethernet;
 mod figures;

@@ -46,7 +46,7 @@ pub trait Line {
 
 // The laws of the trait as the four rules in words.
 pub fn keeps_the_rules<L: Line>(line: &L) -> u8
-    ensures rules { Rules most (meaning line.now) }
+    ensures rules { Rules L.most (L.meaning line.now) }
 {
     0
 }

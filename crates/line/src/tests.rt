@@ -59,8 +59,8 @@ impl Line for Odd {
 
 // The longest wire time of a length on any port, of any line.
 fn slowest<L: Line>(line: &L, length: u16) -> u32
-    ensures most { (q : ℕ) → q < (meaning line.now).ports → (meaning line.now).time q length ≤ result }
-    ensures some { (q : ℕ) × (q < (meaning line.now).ports) × ((meaning line.now).time q length ≡ result) }
+    ensures most { (q : ℕ) → q < (L.meaning line.now).ports → (L.meaning line.now).time q length ≤ result }
+    ensures some { (q : ℕ) × (q < (L.meaning line.now).ports) × ((L.meaning line.now).time q length ≡ result) }
 {
     let mut most = line.wire_time(0, length);
     for port in 1..line.ports() {

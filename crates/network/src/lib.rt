@@ -1,4 +1,6 @@
 // What follows from the definitions of flows, gates and runs: each theorem on the contract of a function.
+#![tactic(auto)]
+
 ghost use Rattle.network.specs.Theorems.{NoWait, OverlapWaits, RunsExist, OneGateList, WaitsExactlyWhereFlowsOverlap};
 
 // Flows that do not overlap keep their plan in every run.

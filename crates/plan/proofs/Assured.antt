@@ -1,6 +1,6 @@
 -- The promise after every list of calls: what a plan holds then is sound, and has the promise of its network.
 -- Assumes nothing.
-use Rattle.std.proofs.Common.{◌≡◌, ℕ, List, [], Some, None, Ok, Err, Option, Result, refl, ap, ◌∙◌}
+use Rattle.std.proofs.Common.{◌≡◌, ℕ, ◌≤◌, List, [], length, Some, None, Ok, Err, Option, Result, refl, ap, ◌∙◌}
 use Rattle.fault.specs.declared.kinds.PlanFault.{PlanFault}
 use Rattle.fault.specs.declared.kinds.PlanFault.TheVariants.{Record, NotSetUp}
 use Rattle.fault.specs.declared.kinds.RecordFault.{RecordFault}
@@ -10,12 +10,14 @@ use Rattle.sheet.specs.declared.flow.Start.{Start}
 use Rattle.sheet.specs.declared.flow.Start.TheVariants.{Chosen, Free}
 use Rattle.sheet.specs.Flows.{read_flow}
 use Rattle.sheet.specs.Sheets.{read_at}
+use Rattle.planning.specs.Gates.{gates}
 use Rattle.planning.specs.Offers.{Recorded, answer}
 use Rattle.planning.specs.Promise.{Keeps}
 use Rattle.planning.specs.Setups.{Setup, Accepted, network}
+use Rattle.planning.proofs.GateCounts.{gates-length}
 use Rattle.planning.proofs.Promise.{promised}
 use Rattle.plan.specs.Calls.{Wires, Model, empty, offered, offer, offer_answer}
-use Rattle.plan.specs.Promise.{Assured, Assures, AlwaysAssured}
+use Rattle.plan.specs.Promise.{Assured, Assures, AlwaysAssured, ListsFit, ListsAlwaysFit}
 use Rattle.plan.specs.Steps.{after}
 use Rattle.plan.proofs.Records.{flow-recorded, read_at_ok}
 use Rattle.plan.proofs.Sound.{SoundHeld, SoundModel, after_sound}
@@ -43,7 +45,6 @@ assured w rules m c ready accepted keeps =
     record {
       accepted = accepted;
       runs = promise.runs;
-      lists = promise.lists;
       answers = λ sheet k x. offer-answered w m c sheet k x ready;
       chosen = λ sheet k x s read chosen. promise.chosen (offered x) s (recorded k sheet x read) (ap chosen-start chosen);
       free = λ sheet k x read free. promise.free (offered x) (recorded k sheet x read) (ap chosen-start free);
@@ -54,7 +55,21 @@ sound_assures w rules m sound = go m.setup refl sound
   where
     go : (o : Option Setup) → m.setup ≡ o → SoundHeld w o m.held → elim o as (λ (_ : Option Setup). Type 0) [ None ↦ m.held ≡ [] | Some c ↦ Assured w m c ]
     go None is none = none
-    go (Some c) is (accepted, keeps) = assured w rules m c is accepted keeps
+    go (Some c) is (accepted, keeps, few) = assured w rules m c is accepted keeps
+
+-- and its gate lists are short
+sound_lists : (w : Wires) (m : Model) → SoundModel w m → ListsFit w m
+sound_lists w m sound = go m.setup sound
+  where
+    go : (o : Option Setup) → SoundHeld w o m.held → elim o as (λ (_ : Option Setup). Type 0) [
+      | None ↦ Unit {0}
+      | Some c ↦ (q : ℕ) → length (gates (network w.meaning c) m.held q) ≤ 3073
+    ]
+    go None none = tt
+    go (Some c) (accepted, keeps, few) = λ q. gates-length (network w.meaning c) m.held q keeps.formed few.few few.room
 
 pub always-assured : AlwaysAssured
 always-assured w rules calls = sound_assures w rules (after w empty calls) (after_sound w rules empty calls refl)
+
+pub lists_always_fit : ListsAlwaysFit
+lists_always_fit w rules calls = sound_lists w (after w empty calls) (after_sound w rules empty calls refl)

@@ -96,7 +96,7 @@ sound-numbers w m sound = go m.setup sound
   where
     go : (o : Option Setup) → SoundHeld w o m.held → Once Namesakes m.held
     go None empty = subst (Once Namesakes) (sym empty) (λ i j f g at. absurd (At-empty at))
-    go (Some c) (accepted, keeps) = keeps.formed.numbers
+    go (Some c) (accepted, keeps, few) = keeps.formed.numbers
 
 module _ (w : Wires) (rules : Rules w.most w.meaning) where
   -- so after a list of calls

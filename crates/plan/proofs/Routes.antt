@@ -1,11 +1,11 @@
 -- The first misrouted and the first overlong hop, step by step.
 -- Assumes nothing.
-use Rattle.std.proofs.Common.{◌≡◌, ℕ, suc, ◌+◌, ◌<◌, ◌≤◌, Bool, true, false, ◌||◌, eqb, ltb, leb, List, [], ◌∷◌, map, reverse, length, get_or, take, drop, Some, None, Decides, sym, refl, ap, ◌∙◌, subst, add-one, arith, length-take}
+use Rattle.std.proofs.Common.{◌≡◌, ℕ, suc, ◌+◌, ◌<◌, ◌≤◌, Bool, true, false, ◌||◌, eqb, ltb, leb, List, [], ◌∷◌, map, reverse, length, get_or, take, drop, Some, None, sym, refl, ap, ◌∙◌, subst, add-one, arith, length-take}
 use mathlib.Core.List.{reverse_aux}
 use lib.ListN.{length-map}
 use Rattle.std.specs.List.{IsAnyAnswer}
 use Rattle.std.proofs.lemmas.List.{map-id, reverse-append, take_all, take_more, at_drop_more, get_or-map, get_or-take}
-use Rattle.std.proofs.lemmas.Bool.{true≢false, eq-eqb, ne_eqb, le-leb, lt-leb, lt-ltb, le-ltb, or_from, or_left, or_right}
+use Rattle.std.proofs.lemmas.Bool.{le-leb, lt-leb, lt-ltb, le-ltb, or_from, or_left, or_right}
 use Rattle.network.specs.Flows as network
 use Rattle.network.proofs.Lists.{At-get_or}
 use Rattle.planning.specs.Lists.{any}
@@ -51,15 +51,15 @@ any-reverse {A} p xs = onto xs [] ∙ or_false (any p xs)
     onto (x ∷ xs) ys = onto xs (x ∷ ys) ∙ turn (p x) (any p xs) (any p ys)
 
 -- whether a port stands among others
-any_stands : (ports : List ℕ) (q : ℕ) (stands : Bool) → IsAnyAnswer (λ r. λ b. Decides b (r ≡ q)) ports stands → any (λ r. eqb r q) ports ≡ stands
+any_stands : (ports : List ℕ) (q : ℕ) (stands : Bool) → IsAnyAnswer (λ r b. eqb r q ≡ b) ports stands → any (λ r. eqb r q) ports ≡ stands
 any_stands ports q stands cases = sym (ap (any (λ r. eqb r q)) whole) ∙ go stands cases
   where
     whole : map (λ (r : ℕ). r) (take (length ports) ports) ≡ ports
     whole = map-id (take (length ports) ports) ∙ take_all (length ports) ports (omega arith)
 
-    go : (stands : Bool) → IsAnyAnswer (λ r. λ b. Decides b (r ≡ q)) ports stands → any (λ r. eqb r q) (map (λ (r : ℕ). r) (take (length ports) ports)) ≡ stands
-    go true some = any_true (λ r. eqb r q) (λ r. r) 0 ports (length ports) some.0 some.1 some.1 (eq-eqb _ q ((some.2 0).0 refl))
-    go false none = any_false (λ r. eqb r q) (λ r. r) 0 ports (length ports) (λ j _ within. ne_eqb _ q (λ e. true≢false (sym ((none j 0 (omega arith) within).1 e))))
+    go : (stands : Bool) → IsAnyAnswer (λ r b. eqb r q ≡ b) ports stands → any (λ r. eqb r q) (map (λ (r : ℕ). r) (take (length ports) ports)) ≡ stands
+    go true some = any_true (λ r. eqb r q) (λ r. r) 0 ports (length ports) some.0 some.1 some.1 (some.2 0)
+    go false none = any_false (λ r. eqb r q) (λ r. r) 0 ports (length ports) (λ j _ within. none j 0 (omega arith) within)
 
 -- what the search for a misrouted hop does at hop k
 misrouted-at : (N : ℕ) (route : List ℕ) (k : ℕ) (bad : Bool) → k < length route → (leb N (get_or route k 0) || any (λ r. eqb r (get_or route k 0)) (take k route)) ≡ bad →
@@ -81,12 +81,12 @@ pub misrouted_absent : (N : ℕ) (route : List ℕ) (k : ℕ) → k < length rou
 misrouted_absent N route k within absent = misrouted-at N route k true within (or_left _ _ (le-leb N _ absent))
 
 -- a port that stands earlier
-pub misrouted_twice : (N : ℕ) (route : List ℕ) (k : ℕ) (stands : Bool) → k < length route → stands ≡ true → IsAnyAnswer (λ r. λ b. Decides b (r ≡ get_or route k 0)) (take k route) stands →
+pub misrouted_twice : (N : ℕ) (route : List ℕ) (k : ℕ) (stands : Bool) → k < length route → stands ≡ true → IsAnyAnswer (λ r b. eqb r (get_or route k 0) ≡ b) (take k route) stands →
     misrouted N (reverse (take k route)) k (drop k route) ≡ Some k
 misrouted_twice N route k stands within found cases = misrouted-at N route k true within (or_right _ _ (any_stands (take k route) _ _ cases ∙ found))
 
 -- a port of N that does not
-pub misrouted_more : (N : ℕ) (route : List ℕ) (k : ℕ) (stands : Bool) → k < length route → get_or route k 0 < N → stands ≡ false → IsAnyAnswer (λ r. λ b. Decides b (r ≡ get_or route k 0)) (take k route) stands →
+pub misrouted_more : (N : ℕ) (route : List ℕ) (k : ℕ) (stands : Bool) → k < length route → get_or route k 0 < N → stands ≡ false → IsAnyAnswer (λ r b. eqb r (get_or route k 0) ≡ b) (take k route) stands →
     misrouted N (reverse (take k route)) k (drop k route) ≡ misrouted N (reverse (take (k + 1) route)) (k + 1) (drop (k + 1) route)
 misrouted_more N route k stands within present missing cases = misrouted-at N route k false within (or_from _ _ (lt-leb N _ present) (any_stands (take k route) _ _ cases ∙ missing))
 

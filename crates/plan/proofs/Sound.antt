@@ -1,6 +1,6 @@
 -- What a plan holds after every call: no flow before it is set up, and then flows that the network of its set-up can hold.
 -- Assumes nothing.
-use Rattle.std.proofs.Common.{◌≡◌, ℕ, ◌≤◌, List, [], ◌∷◌, Some, None, Ok, Err, Option, Result, sym, refl, ap, subst, arith}
+use Rattle.std.proofs.Common.{◌≡◌, ℕ, ◌≤◌, List, [], ◌∷◌, Some, None, Ok, Err, Option, Result, sym, refl, ap, subst}
 use Rattle.fault.specs.declared.kinds.PlanFault.{PlanFault}
 use Rattle.fault.specs.declared.kinds.PlanFault.TheVariants.{Record, NotSetUp}
 use Rattle.fault.specs.declared.kinds.RecordFault.{RecordFault}
@@ -13,9 +13,9 @@ use Rattle.sheet.specs.Flows.{read_flow}
 use Rattle.sheet.specs.Ports.{read_port}
 use Rattle.sheet.specs.Sheets.{read_at, read_sheet}
 use Rattle.planning.specs.Offers.{Recorded, answer, flow}
-use Rattle.planning.specs.Promise.{Keeps}
+use Rattle.planning.specs.Promise.{Keeps, IsFew}
 use Rattle.planning.specs.Setups.{Setup, Accepted, network}
-use Rattle.planning.proofs.Keeps.{keeps-without, offers-keep}
+use Rattle.planning.proofs.Keeps.{keeps-without, offers-keep, few_none, few-without, offers_stay_few}
 use Rattle.plan.specs.declared.call.Call.{Call}
 use Rattle.plan.specs.declared.call.Call.TheVariants.{SetUp, Offer, Withdraw, StartOf, Flowspan, GateList}
 use Rattle.plan.specs.Calls.{Wires, Model, offered, set_up, set_up_answer, offer_answer, withdraw_answer, left}
@@ -26,7 +26,7 @@ use Rattle.plan.proofs.Records.{best-least, flow-recorded, read_at_ok, read_shee
 -- the flows that can be held with a set-up, if there is one
 abbrev pub SoundHeld : Wires → Option Setup → List Flow → Type 0
 SoundHeld w None held = held ≡ []
-SoundHeld w (Some c) held = Accepted w.most w.meaning c × Keeps (network w.meaning c) held
+SoundHeld w (Some c) held = Accepted w.most w.meaning c × Keeps (network w.meaning c) held × IsFew (network w.meaning c) held
 
 -- what a plan can hold
 abbrev pub SoundModel : Wires → Model → Type 0
@@ -37,8 +37,6 @@ keeps-none : {net : Network} → Keeps net []
 keeps-none = record {
   formed = record { each = λ j f at. absurd (At-empty at); numbers = λ i j f g at. absurd (At-empty at) };
   apart = λ i j f g at. absurd (At-empty at);
-  room = omega arith;
-  few = λ j f at. absurd (At-empty at);
 }
 
 -- a done set-up was the first, so no flow was held
@@ -52,6 +50,7 @@ set_up_sound w m C sheet c sound e = go m.setup (read_sheet 8 read_port sheet) r
     go None (Ok xs) read sound e = (
       set_up-accepted w C xs c (read_sheet_ok (λ x. 64 ≤ x.best_effort) 8 read_port best-least sheet xs read) e,
       subst (Keeps (network w.meaning c)) (sym sound) keeps-none,
+      subst (IsFew (network w.meaning c)) (sym sound) (few_none (network w.meaning c)),
     )
 
 -- a done offer adds a flow that the network can hold beside the others
@@ -66,13 +65,16 @@ offer_sound w rules m sheet k s sound e =
         SoundHeld w o (elim o [ None ↦ m.held | Some c ↦ elim r [ Err _ ↦ m.held | Ok x ↦ flow (network w.meaning c) (offered x) s ∷ m.held ] ])
     go None r recorded sound e = sound
     go (Some c) (Err f) recorded sound e = sound
-    go (Some c) (Ok x) recorded (accepted, keeps) e =
-        (accepted, offers-keep w.most w.meaning c rules accepted m.held keeps (offered x) s (recorded x refl) e)
+    go (Some c) (Ok x) recorded (accepted, keeps, few) e = (
+      accepted,
+      offers-keep w.most w.meaning c rules accepted m.held keeps (offered x) s (recorded x refl) e,
+      offers_stay_few w.most (network w.meaning c) m.held few (offered x) s (recorded x refl) e,
+    )
 
 -- what is left after a withdrawal
 left_sound : (w : Wires) (o : Option Setup) (held : List Flow) (i : ℕ) → SoundHeld w o held → SoundHeld w o (left i held)
 left_sound w None held i none = ap (left i) none
-left_sound w (Some c) held i (accepted, keeps) = (accepted, keeps-without _ held keeps)
+left_sound w (Some c) held i (accepted, keeps, few) = (accepted, keeps-without _ held keeps, few-without _ held few)
 
 -- what holds before a call, and of what it leaves where it is done, holds after it
 answered : {A : Type 0} (P : Model → Type 0) (m : Model) (r : Result A PlanFault) (done : A → Model) →

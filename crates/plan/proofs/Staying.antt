@@ -11,7 +11,6 @@ use Rattle.planning.proofs.Lasts.{Repeats, Bare, Free, Comes, covered-lasts, com
 use Rattle.planning.proofs.Stretches.{recorded_stretch}
 use Rattle.plan.specs.declared.row.Hop.{Hop}
 use Rattle.plan.specs.declared.row.Row.{Row}
-use Rattle.plan.specs.declared.row.State.TheVariants as state
 use Rattle.plan.specs.Looks.{left_at, next_at, left_on, next_on}
 use Rattle.plan.specs.Rows.{hop, flow, flows, blank, none, AllKept}
 use Rattle.plan.proofs.Held.{each-flow}

@@ -3,12 +3,10 @@
 use Rattle.std.proofs.Common.{◌≡◌, ℕ, zero, suc, ◌+◌, ◌<◌, max, List, [], ◌∷◌, map, length, get_or, take, refl, ap, ◌∙◌, arith}
 use Rattle.network.specs.Flows.{Network, arrival, total}
 use Rattle.planning.specs.Offers.{flowspan}
-use Rattle.planning.specs.Setups as planning
 use Rattle.plan.specs.declared.row.Hop.{Hop}
 use Rattle.plan.specs.declared.row.Row.{Row}
 use Rattle.plan.specs.declared.row.State.{State}
 use Rattle.plan.specs.declared.row.State.TheVariants.{Free, Held}
-use Rattle.plan.specs.Ports as stored
 use Rattle.plan.specs.Rows.{hop, flow, flows, blank}
 
 -- the total time is that of the last hop

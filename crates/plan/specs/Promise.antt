@@ -16,14 +16,12 @@ use Rattle.plan.specs.Steps.{after}
 
 -- of a plan that is set up and holds these flows, on the network of its line and its set-up:
 -- (a) in every run under its gate lists each scheduled frame begins at each port the instant it is ready there and arrives within its deadline, and there are such runs;
--- each gate list has at most 3,073 records, 15,365 octets;
 -- and of a further flow, record x at index k of a sheet, that falls under no earlier refusal:
 -- (b) with a chosen start it is refused exactly when with the flow added at that start some frame would wait in some run;
 -- (c) with none it is refused exactly when at every start below its period some frame would wait in some run, and else gets the smallest start at which none would in any
 pub record Assured (w : Wires) (m : Model) (c : Setup) : Type 0 where
   pub accepted : Accepted w.most w.meaning c
   pub runs : NoneWaits (network w.meaning c) m.held
-  pub lists : (q : ℕ) → length (gates (network w.meaning c) m.held q) ≤ 3073
   pub answers : (sheet : List ℕ) (k : ℕ) (x : FlowRecord) → read_at 21 read_flow k sheet ≡ Ok x →
       offer_answer w m sheet k ≡ answer (network w.meaning c) w.most m.held (offered x)
   pub chosen : (sheet : List ℕ) (k : ℕ) (x : FlowRecord) (s : ℕ) → read_at 21 read_flow k sheet ≡ Ok x → x.start ≡ Chosen s → s < x.period →
@@ -38,3 +36,11 @@ Assures w m = elim m.setup [ None ↦ m.held ≡ [] | Some c ↦ Assured w m c ]
 -- after every list of calls on a plan made on a line that keeps the rules
 abbrev pub AlwaysAssured : Type 0
 AlwaysAssured = (w : Wires) → Rules w.most w.meaning → (calls : List Call) → Assures w (after w empty calls)
+
+-- each gate list of a plan that is set up has at most 3,073 records, 15,365 octets
+abbrev pub ListsFit : Wires → Model → Type 0
+ListsFit w m = elim m.setup [ None ↦ Unit {0} | Some c ↦ (q : ℕ) → length (gates (network w.meaning c) m.held q) ≤ 3073 ]
+
+-- after every list of calls on a plan made on a line that keeps the rules
+abbrev pub ListsAlwaysFit : Type 0
+ListsAlwaysFit = (w : Wires) → Rules w.most w.meaning → (calls : List Call) → ListsFit w (after w empty calls)

@@ -46,18 +46,10 @@ added w m sheet k s = elim m.setup [
   | Some c ↦ elim (read_at 21 read_flow k sheet) [ Err _ ↦ m.held | Ok x ↦ flow (network w.meaning c) (offered x) s ∷ m.held ]
 ]
 
--- what the plan holds after a set-up with a cycle and a sheet of port records; a refused one leaves it as it was
-abbrev pub after_set_up : Wires → Model → ℕ → List ℕ → Model
-after_set_up w m C sheet = elim (set_up_answer w m C sheet) [ Ok c ↦ record { setup = Some c; held = m.held } | Err _ ↦ m ]
-
--- what it holds after an offer of record k of a sheet; a refused one leaves it as it was
-abbrev pub after_offer : Wires → Model → List ℕ → ℕ → Model
-after_offer w m sheet k = elim (offer_answer w m sheet k) [ Ok s ↦ record { setup = m.setup; held = added w m sheet k s } | Err _ ↦ m ]
-
 -- what the plan holds after a call; a refused call and a question leave it as it was
 abbrev pub next : Wires → Model → Call → Model
-next w m (SetUp C sheet) = after_set_up w m C sheet.now
-next w m (Offer sheet k) = after_offer w m sheet.now k
+next w m (SetUp C sheet) = elim (set_up_answer w m C sheet.now) [ Ok c ↦ record { setup = Some c; held = m.held } | Err _ ↦ m ]
+next w m (Offer sheet k) = elim (offer_answer w m sheet.now k) [ Ok s ↦ record { setup = m.setup; held = added w m sheet.now k s } | Err _ ↦ m ]
 next w m (Withdraw i) = elim (withdraw_answer m i) [ Ok _ ↦ record { setup = m.setup; held = left i m.held } | Err _ ↦ m ]
 next w m (StartOf i) = m
 next w m Flowspan = m

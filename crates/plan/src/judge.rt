@@ -18,7 +18,7 @@ pub(crate) fn judge<L: Line>(
 ) -> Result<Timing, PlanFault>
     requires some { 1 ≤ period }
     requires few { length route.now ≤ 8 }
-    ensures judged { Judged most (meaning line.now) setup.now (offered frame period deadline route.now) result }
+    ensures judged { Judged L.most (L.meaning line.now) setup.now (offered frame period deadline route.now) result }
 {
     if !regular(setup.cycle, period) {
         return Err(PlanFault::Period);

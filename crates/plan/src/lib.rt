@@ -1,4 +1,6 @@
 // A plan: rows of flows, their starts, and the gate list of each port.
+#![tactic(auto)]
+
 mod call;
 mod figures;
 mod fit;

@@ -17,7 +17,7 @@ use sheet::{FlowRecord, Start};
 // The row of a flow record with start 0, or the first refusal that concerns its figures.
 pub(crate) fn made<L: Line>(line: &L, setup: &Setup, flow: &FlowRecord) -> Result<Row, PlanFault>
     requires limited { Limited flow.now }
-    ensures made { elim result [ Ok row ↦ Made most (network (meaning line.now) setup.now) (offered flow.now) row | Err e ↦ unfit (network (meaning line.now) setup.now) most (offered flow.now) ≡ Some e ] }
+    ensures made { elim result [ Ok row ↦ Made L.most (network (L.meaning line.now) setup.now) (offered flow.now) row | Err e ↦ unfit (network (L.meaning line.now) setup.now) L.most (offered flow.now) ≡ Some e ] }
 {
     let route = &flow.ports[0..flow.hops as usize];
     let timing = judge(line, setup, flow.length, flow.period, flow.deadline, route)?;

@@ -52,7 +52,7 @@ pub(crate) struct Timing {
 // The offsets and wire times on a route of frames of a length, and the total time.
 pub(crate) fn timed<L: Line>(line: &L, setup: &Setup, frame: u16, route: &[u8]) -> Timing
     requires few { length route.now ≤ 8 }
-    ensures times { Times most (meaning line.now) setup.now frame route.now result }
+    ensures times { Times L.most (L.meaning line.now) setup.now frame route.now result }
 {
     let mut hops = [Hop {
         port: 0,

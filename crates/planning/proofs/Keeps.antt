@@ -6,11 +6,12 @@ use Rattle.fault.specs.declared.kinds.PlanFault.{PlanFault}
 use Rattle.fault.specs.declared.kinds.PlanFault.TheVariants.{Start, Taken, NoStart}
 use Rattle.network.specs.Flows.{Flow, Network, Well, Formed}
 use Rattle.network.specs.Overlap.{starting, Overlap, Fits}
+use Rattle.network.proofs.Lists.{At-empty}
 use Rattle.network.proofs.OverlapDecided.{overlap-sym}
 use Rattle.planning.specs.Lists.{without}
 use Rattle.planning.specs.Overlaps.{fits, earliest}
 use Rattle.planning.specs.Offers.{flow, refusal, placed}
-use Rattle.planning.specs.Promise.{Keeps, OffersKeep}
+use Rattle.planning.specs.Promise.{Keeps, OffersKeep, IsFew, OffersStayFew}
 use Rattle.planning.specs.Setups.{network}
 use Rattle.planning.proofs.Once.{Each, each_more, each-without, once_more, once-without}
 use Rattle.planning.proofs.Overlaps.{Repeat, decides-fits, earliest_starts}
@@ -32,14 +33,32 @@ formed_more {net} well new formed = record {
   numbers = once_more Namesake (λ f g. sym) (λ j g at e. new j g at (sym e)) formed.numbers;
 }
 
--- and one that fits, where there is room
+-- and one that fits
 pub keeps_more : {net : Network} {f : Flow} {flows : List Flow} →
-    Well net f → Each (λ g. ¬ (g.number ≡ f.number)) flows → Fits flows f → length flows < 64 → net.cycle / f.period ≤ 16 → Keeps net flows → Keeps net (f ∷ flows)
-keeps_more {net} well new fit room few keeps = record {
+    Well net f → Each (λ g. ¬ (g.number ≡ f.number)) flows → Fits flows f → Keeps net flows → Keeps net (f ∷ flows)
+keeps_more well new fit keeps = record {
   formed = formed_more well new keeps.formed;
   apart = once_more Overlap (λ f g. overlap-sym) fit keeps.apart;
+}
+
+pub keeps-without : {net : Network} (p : Flow → Bool) (flows : List Flow) → Keeps net flows → Keeps net (without p flows)
+keeps-without {net} p flows keeps = record {
+  formed = record {
+    each = each-without (λ g. Well net g) p flows keeps.formed.each;
+    numbers = once-without Namesake (λ f g. sym) p flows keeps.formed.numbers;
+  };
+  apart = once-without Overlap (λ f g. overlap-sym) p flows keeps.apart;
+}
+
+-- no flows are few
+pub few_none : (net : Network) → IsFew net []
+few_none net = record { room = omega arith; few = λ j f at. absurd (At-empty at) }
+
+-- one more is few where there is room
+pub few_more : {net : Network} {f : Flow} {flows : List Flow} → length flows < 64 → net.cycle / f.period ≤ 16 → IsFew net flows → IsFew net (f ∷ flows)
+few_more {net} room few is = record {
   room = omega arith;
-  few = each_more (λ g. net.cycle / g.period ≤ 16) few keeps.few;
+  few = each_more (λ g. net.cycle / g.period ≤ 16) few is.few;
 }
 
 -- what is left is no longer
@@ -51,15 +70,10 @@ length_without {A} p (x ∷ xs) = let rest = length_without p xs in go (p x) res
     go true rest = omega arith
     go false rest = omega arith
 
-pub keeps-without : {net : Network} (p : Flow → Bool) (flows : List Flow) → Keeps net flows → Keeps net (without p flows)
-keeps-without {net} p flows keeps = record {
-  formed = record {
-    each = each-without (λ g. Well net g) p flows keeps.formed.each;
-    numbers = once-without Namesake (λ f g. sym) p flows keeps.formed.numbers;
-  };
-  apart = once-without Overlap (λ f g. overlap-sym) p flows keeps.apart;
-  room = let less = length_without p flows in let room = keeps.room in omega arith;
-  few = each-without (λ g. net.cycle / g.period ≤ 16) p flows keeps.few;
+pub few-without : {net : Network} (p : Flow → Bool) (flows : List Flow) → IsFew net flows → IsFew net (without p flows)
+few-without {net} p flows is = record {
+  room = let less = length_without p flows in let room = is.room in omega arith;
+  few = each-without (λ g. net.cycle / g.period ≤ 16) p flows is.few;
 }
 
 -- a done offer falls under no refusal
@@ -103,4 +117,11 @@ offers-keep most m c rules accepted flows keeps x s recorded done =
     let (passes, placed) = answer_ok (refusal net most flows x) _ s done in
     let passed = refusal-none net most flows x recorded.period_least passes in
     let (below, fit) = placed_ok flows (formed_repeat keeps.formed) (flow net x 0) recorded.period_least x.chosen s placed in
-    keeps_more (passed_well (rules_timed most m c rules) recorded passed s below) passed.fresh fit passed.room passed.few keeps
+    keeps_more (passed_well (rules_timed most m c rules) recorded passed s below) passed.fresh fit keeps
+
+-- flows stay few with the flow of a done offer
+pub offers_stay_few : OffersStayFew
+offers_stay_few most net flows is x s recorded done =
+    let (passes, placed) = answer_ok (refusal net most flows x) _ s done in
+    let passed = refusal-none net most flows x recorded.period_least passes in
+    few_more passed.room passed.few is

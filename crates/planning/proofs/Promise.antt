@@ -20,7 +20,6 @@ use Rattle.planning.proofs.Overlaps.{Repeat, decides-fits, unfit-found, earliest
 use Rattle.planning.proofs.Offers.{Timed, Passed, refusal-none, passed_well}
 use Rattle.planning.proofs.Setups.{rules_timed, accepted_sound}
 use Rattle.planning.proofs.GateLists.{gates_list, gates_shows}
-use Rattle.planning.proofs.GateCounts.{gates-length}
 use Rattle.planning.proofs.Keeps.{formed_repeat, formed_more, keeps_more}
 
 -- gates that show the gate lists have the defined states
@@ -83,7 +82,7 @@ module _ {net : Network} {most : ℕ} {flows : List Flow} (sound : Sound net) (t
 
   -- at a start where the flow fits, no frame waits with the flow added
   fit_none : (s : ℕ) → s < x.period → Fits flows (flow net x s) → NoneWaits net (flow net x s ∷ flows)
-  fit_none s below fit = keeps-none sound (keeps_more (passed_well timed recorded passed s below) passed.fresh fit passed.room passed.few keeps)
+  fit_none s below fit = keeps-none sound (keeps_more (passed_well timed recorded passed s below) passed.fresh fit keeps)
 
   -- at a start where it does not, some frame does
   unfit-waits : (s : ℕ) → s < x.period → ¬ Fits flows (flow net x s) → SomeWaits net (flow net x s ∷ flows)
@@ -137,7 +136,6 @@ promised most m c rules accepted flows keeps =
     let timed = rules_timed most m c rules in
     record {
       runs = keeps-none sound keeps;
-      lists = λ q. gates-length _ flows q keeps.formed keeps.few keeps.room;
       chosen = λ x s recorded chosen below passes. chosen-exactly sound timed keeps x recorded passes s chosen below;
       free = λ x recorded free passes. earliest-exactly sound timed keeps x recorded passes free;
     }

@@ -47,17 +47,19 @@ pub record EarliestExactly (net : Network) (most : ℕ) (flows : List Flow) (x :
   pub only : ((s : ℕ) → s < x.period → SomeWaits net (flow net x s ∷ flows)) → answer net most flows x ≡ Err NoStart
   pub done : (answer net most flows x ≢ Err NoStart) → (s : ℕ) × (answer net most flows x ≡ Ok s) × (s < x.period) × NoneWaits net (flow net x s ∷ flows) × ((r : ℕ) → r < s → SomeWaits net (flow net x r ∷ flows))
 
--- flows that a plan can hold: well formed, no two overlap, at most 64, and none with more than 16 periods in the cycle
+-- flows that a plan can hold: well formed, and no two overlap
 pub record Keeps (net : Network) (flows : List Flow) : Type 0 where
   pub formed : Formed net flows
   pub apart : Apart flows
+
+-- at most 64 flows, of which none has more than 16 periods in the cycle
+pub record IsFew (net : Network) (flows : List Flow) : Type 0 where
   pub room : length flows ≤ 64
   pub few : (j : ℕ) (f : Flow) → At flows j f → net.cycle / f.period ≤ 16
 
--- the promise for the flows that a plan holds: their runs, gate lists of at most 3,073 records, and what offers are answered
+-- the promise for the flows that a plan holds
 pub record Promise (net : Network) (most : ℕ) (flows : List Flow) : Type 0 where
   pub runs : NoneWaits net flows
-  pub lists : (q : ℕ) → length (gates net flows q) ≤ 3073
   pub chosen : (x : Offered) (s : ℕ) → Recorded x → x.chosen ≡ Some s → s < x.period → refusal net most flows x ≡ None → ChosenExactly net most flows x s
   pub free : (x : Offered) → Recorded x → x.chosen ≡ None → refusal net most flows x ≡ None → EarliestExactly net most flows x
 
@@ -69,3 +71,8 @@ Promised = (most : ℕ) (m : Meaning) (c : Setup) → Rules most m → Accepted 
 abbrev pub OffersKeep : Type 0
 OffersKeep = (most : ℕ) (m : Meaning) (c : Setup) → Rules most m → Accepted most m c → (flows : List Flow) → Keeps (network m c) flows →
     (x : Offered) (s : ℕ) → Recorded x → answer (network m c) most flows x ≡ Ok s → Keeps (network m c) (flow (network m c) x s ∷ flows)
+
+-- and with the flow of a done offer added, flows that are few are so again
+abbrev pub OffersStayFew : Type 0
+OffersStayFew = (most : ℕ) (net : Network) (flows : List Flow) → IsFew net flows →
+    (x : Offered) (s : ℕ) → Recorded x → answer net most flows x ≡ Ok s → IsFew net (flow net x s ∷ flows)

@@ -1,6 +1,8 @@
 // What a plan answers to an offer, and what is promised of the flows that it holds.
+#![tactic(auto)]
+
 ghost use Rattle.planning.specs.Laws.{OverlapDecided, FitDecided, EarliestFound, StatesDecided, GatesListed, GatesFew};
-ghost use Rattle.planning.specs.Promise.{Promised, OffersKeep};
+ghost use Rattle.planning.specs.Promise.{Promised, OffersKeep, OffersStayFew};
 
 // What the tests that compute mean: overlap, fit, the earliest start, the states of gates, and gate lists with their length.
 pub fn tests_decide() -> u8
@@ -21,9 +23,10 @@ pub fn promised() -> u8
     0
 }
 
-// With the flow of a done offer added, the flows are again such flows.
+// With the flow of a done offer added, the flows are again such flows; and at most 64 with at most 16 periods in the cycle each, if they were.
 pub fn offers_keep() -> u8
-    ensures { OffersKeep }
+    ensures keep { OffersKeep }
+    ensures few { OffersStayFew }
 {
     0
 }

@@ -1,4 +1,6 @@
 // Sheets of records: the record kinds, their fields, and the reader of a sheet.
+#![tactic(auto)]
+
 mod field;
 mod flow;
 mod gate;

@@ -34,7 +34,7 @@ impl<'a> Reader<'a> {
 
     // The record that the reader stands at, by its kind's own reading.
     pub fn read<K: RecordKind>(&self) -> Result<K, RecordFault>
-        ensures value { result ≡ read_at long reading self.now.index self.now.sheet.now }
+        ensures value { result ≡ read_at K.long K.reading self.now.index self.now.sheet.now }
     {
         let octets = self.octets(K::octet_count())?;
         K::read(self.index, octets)
@@ -43,7 +43,7 @@ impl<'a> Reader<'a> {
 
 // How many records a sheet has; one that is not whole records is refused at that count.
 pub fn whole_records<K: RecordKind>(sheet: &[u8]) -> Result<usize, SheetFault>
-    ensures value { result ≡ record_count long sheet.now }
+    ensures value { result ≡ record_count K.long sheet.now }
 {
     let size = K::octet_count();
     let count = sheet.len() / size;

@@ -21,7 +21,7 @@ impl fmt::Display for Start {
 
 // The ports of a route, each behind a space.
 fn write_route<W: fmt::Write>(f: &mut fmt::Formatter<W>, ports: &[u8]) -> fmt::Result
-    ensures prints { WritesOnOk write_str_gives f.old result (route_text ports.now) f.new }
+    ensures prints { WritesOnOk W.write_str_gives f.old result (route_text ports.now) f.new }
 {
     for port in ports {
         let number = *port;

@@ -9,7 +9,7 @@ use fault::{PlanFault, RecordFault};
 
 // Whether all records may be written; the first that may not is named by its index.
 fn judge_all<K: RecordKind>(records: &[K]) -> Result<(), RecordFault>
-    ensures value { result ≡ judge_from judging 0 records.now }
+    ensures value { result ≡ judge_from K.judging 0 records.now }
 {
     for (index, record) in records.iter().enumerate() {
         record.judge(index)?;
@@ -19,10 +19,10 @@ fn judge_all<K: RecordKind>(records: &[K]) -> Result<(), RecordFault>
 
 // Writes a record that may be written to its place in a buffer that is long enough.
 fn put_record<K: RecordKind>(item: &K, index: usize, buffer: &mut [u8]) -> Result<(), PlanFault>
-    requires judged { judging 0 item.now ≡ Ok tt }
-    requires room { index * long + long ≤ length buffer.old }
+    requires judged { K.judging 0 item.now ≡ Ok tt }
+    requires room { index * K.long + K.long ≤ length buffer.old }
     ensures value { result ≡ Ok tt }
-    ensures after { buffer.new ≡ take (index * long) buffer.old ++ (written item.now ++ drop (index * long + long) buffer.old) }
+    ensures after { buffer.new ≡ take (index * K.long) buffer.old ++ (K.written item.now ++ drop (index * K.long + K.long) buffer.old) }
 {
     let size = K::octet_count();
     let first = index * size;
@@ -31,10 +31,10 @@ fn put_record<K: RecordKind>(item: &K, index: usize, buffer: &mut [u8]) -> Resul
 
 // Writes records that may be written into a buffer that is long enough.
 fn put_records<K: RecordKind>(records: &[K], buffer: &mut [u8]) -> Result<(), PlanFault>
-    requires judged { judge_from judging 0 records.now ≡ Ok tt }
-    requires room { length records.now * long ≤ length buffer.old }
+    requires judged { judge_from K.judging 0 records.now ≡ Ok tt }
+    requires room { length records.now * K.long ≤ length buffer.old }
     ensures value { result ≡ Ok tt }
-    ensures after { buffer.new ≡ written_sheet written records.now ++ drop (length records.now * long) buffer.old }
+    ensures after { buffer.new ≡ written_sheet K.written records.now ++ drop (length records.now * K.long) buffer.old }
 {
     for (index, record) in records.iter().enumerate() {
         put_record(record, index, buffer)?;
@@ -44,9 +44,9 @@ fn put_records<K: RecordKind>(records: &[K], buffer: &mut [u8]) -> Result<(), Pl
 
 // Writes the records, answers how many octets they take, and leaves the octets behind them as they were.
 pub fn write_sheet<K: RecordKind>(records: &[K], buffer: &mut [u8]) -> Result<usize, PlanFault>
-    ensures value { result ≡ answered_sheet (length records.now * long) (length buffer.old) (judge_from judging 0 records.now) }
-    ensures after { buffer.new ≡ put result (length records.now * long) (written_sheet written records.now) buffer.old }
-    ensures undone { Undone long reading judging written }
+    ensures value { result ≡ answered_sheet (length records.now * K.long) (length buffer.old) (judge_from K.judging 0 records.now) }
+    ensures after { buffer.new ≡ put result (length records.now * K.long) (written_sheet K.written records.now) buffer.old }
+    ensures undone { Undone K.long K.reading K.judging K.written }
 {
     judge_all(records)?;
     let size = K::octet_count();

@@ -1,4 +1,6 @@
 // Spans that repeat: whether two sets of them share an instant, how far one set has to move until they do not, and which places of a cycle they cover and guard.
+#![tactic(auto)]
+
 mod arithmetic;
 mod span;
 

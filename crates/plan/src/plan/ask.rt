@@ -26,7 +26,7 @@ impl<L: Line> Plan<L> {
 
     // The greatest start + total time among the held flows, or 0.
     pub fn flowspan(&self) -> Result<u32, PlanFault>
-        ensures value { result ≡ flowspan_answer (wires most (meaning self.now.line)) (model self.now.setup self.now.rows) }
+        ensures value { result ≡ flowspan_answer (wires L.most (L.meaning self.now.line)) (model self.now.setup self.now.rows) }
         ensures same { self.now ≡ self.now }
     {
         let Some(setup) = self.setup else {

@@ -11,10 +11,10 @@ use line::Line;
 impl<L: Line> Plan<L> {
     // Performs a call: a gate list goes to the buffer.
     pub fn call(&mut self, call: Call<'_>, buffer: &mut [u8]) -> Answer
-        ensures value { result ≡ reply (wires most (meaning self.old.line)) (model self.old.setup self.old.rows) (length buffer.old) call.entry }
+        ensures value { result ≡ reply (wires L.most (L.meaning self.old.line)) (model self.old.setup self.old.rows) (length buffer.old) call.entry }
         ensures line { self.new.line ≡ self.old.line }
-        ensures after { Alike (model self.new.setup self.new.rows) (next (wires most (meaning self.old.line)) (model self.old.setup self.old.rows) call.entry) }
-        ensures buffer { buffer.new ≡ written (wires most (meaning self.old.line)) (model self.old.setup self.old.rows) buffer.old call.entry }
+        ensures after { Alike (model self.new.setup self.new.rows) (next (wires L.most (L.meaning self.old.line)) (model self.old.setup self.old.rows) call.entry) }
+        ensures buffer { buffer.new ≡ written (wires L.most (L.meaning self.old.line)) (model self.old.setup self.old.rows) buffer.old call.entry }
     {
         match call {
             Call::SetUp { cycle, ports } => {

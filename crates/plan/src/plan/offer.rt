@@ -22,7 +22,7 @@ impl<L: Line> Plan<L> {
     // A free row, and what it will hold once the flow of a record is added, or the first refusal.
     fn place(&self, setup: &Setup, flow: &FlowRecord) -> Result<(usize, Row), PlanFault>
         requires limited { Limited flow.now }
-        ensures placed { elim result [ Ok p ↦ Placed most (network (meaning self.now.line) setup.now) self.now.rows (offered flow.now) p.0 p.1 | Err e ↦ answer (network (meaning self.now.line) setup.now) most (held self.now.rows) (offered flow.now) ≡ Err e ] }
+        ensures placed { elim result [ Ok p ↦ Placed L.most (network (L.meaning self.now.line) setup.now) self.now.rows (offered flow.now) p.0 p.1 | Err e ↦ answer (network (L.meaning self.now.line) setup.now) L.most (held self.now.rows) (offered flow.now) ≡ Err e ] }
     {
         if let Some(_) = find(&self.rows, flow.number) {
             return Err(PlanFault::NumberHeld);
@@ -37,10 +37,10 @@ impl<L: Line> Plan<L> {
 
     // Adds the flow of a record of a sheet, and answers its start: the chosen one, or the earliest.
     pub fn offer(&mut self, flows: &[u8], index: usize) -> Result<u32, PlanFault>
-        ensures value { result ≡ offer_answer (wires most (meaning self.old.line)) (model self.old.setup self.old.rows) flows.now index }
+        ensures value { result ≡ offer_answer (wires L.most (L.meaning self.old.line)) (model self.old.setup self.old.rows) flows.now index }
         ensures line { self.new.line ≡ self.old.line }
         ensures setup { self.new.setup ≡ self.old.setup }
-        ensures after { elim result [ Ok s ↦ Same (held self.new.rows) (added (wires most (meaning self.old.line)) (model self.old.setup self.old.rows) flows.now index s) | Err _ ↦ self.new.rows ≡ self.old.rows ] }
+        ensures after { elim result [ Ok s ↦ Same (held self.new.rows) (added (wires L.most (L.meaning self.old.line)) (model self.old.setup self.old.rows) flows.now index s) | Err _ ↦ self.new.rows ≡ self.old.rows ] }
     {
         let flow: FlowRecord = Reader::new(flows, index).read()?;
         let Some(setup) = self.setup else {

@@ -17,10 +17,10 @@ const GREATEST_CYCLE: u32 = 1_000_000_000;
 impl<L: Line> Plan<L> {
     // Sets the plan up with a cycle and a sheet of port records, one a port.
     pub fn set_up(&mut self, cycle: u32, ports: &[u8]) -> Result<(), PlanFault>
-        ensures value { result ≡ elim (set_up_answer (wires most (meaning self.old.line)) (model self.old.setup self.old.rows) cycle ports.now) [ Ok _ ↦ Ok tt | Err e ↦ Err e ] }
+        ensures value { result ≡ elim (set_up_answer (wires L.most (L.meaning self.old.line)) (model self.old.setup self.old.rows) cycle ports.now) [ Ok _ ↦ Ok tt | Err e ↦ Err e ] }
         ensures line { self.new.line ≡ self.old.line }
         ensures rows { self.new.rows ≡ self.old.rows }
-        ensures after { elim (set_up_answer (wires most (meaning self.old.line)) (model self.old.setup self.old.rows) cycle ports.now) [ Ok c ↦ stored self.new.setup ≡ Some c | Err _ ↦ self.new.setup ≡ self.old.setup ] }
+        ensures after { elim (set_up_answer (wires L.most (L.meaning self.old.line)) (model self.old.setup self.old.rows) cycle ports.now) [ Ok c ↦ stored self.new.setup ≡ Some c | Err _ ↦ self.new.setup ≡ self.old.setup ] }
     {
         let figures = read_ports(ports, L::longest())?;
         if let Some(_) = self.setup {

@@ -15,34 +15,34 @@ use Rattle.plan.proofs.figures.read_ports.Goals.{then-k-lt32, else-k-lt32, then-
 pub loop-k-init : goal.loop-k-init
 loop-k-init c = figured-none c.args.largest
 
-pub returns-in-err-record : goal.returns-in-err-record
-returns-in-err-record c =
+pub returns-in_err-record : goal.returns-in_err-record
+returns-in_err-record c =
     let new = c.new.ensures in
-    let here = sym (c.in-err-record.ensures.value ∙ (λ i. read_at 8 read_port (new.index i) (new.sheet i))) in
-    let fault = err_from_is_err_and c.from-residual-in-err-record.result c.from-residual-in-err-record.ensures.1 in
-    let all = reads_fault c.args.largest c.loop-k.k c.in-ok-count.count c.args.sheet.now _ _ c.loop-k.invariant c.loop-k-test.true c.in-ok-count.ensures.value here in
+    let here = sym (c.in_err-record.ensures.value ∙ (λ i. read_at 8 read_port (new.index i) (new.sheet i))) in
+    let fault = err_from_is_err_and c.from_residual-in_err-record.result c.from_residual-in_err-record.ensures.1 in
+    let all = reads_fault c.args.largest c.loop-k.k c.in_ok-count.count c.args.sheet.now _ _ c.loop-k.invariant c.loop-k-test.true c.in_ok-count.ensures.value here in
     record {
-      reads = subst (λ (r : Result (List PortRecord) RecordFault). Reads c.args.largest r c.from-residual-in-err-record.result) (sym all) (fault.1 ∙ ap Err fault.2);
+      reads = subst (λ (r : Result (List PortRecord) RecordFault). Reads c.args.largest r c.from_residual-in_err-record.result) (sym all) (fault.1 ∙ ap Err fault.2);
     }
 
 pub loop-k-preserved : goal.loop-k-preserved
 loop-k-preserved c =
     let new = c.new.ensures in
-    let here = sym (c.in-ok-record.ensures.value ∙ (λ i. read_at 8 read_port (new.index i) (new.sheet i))) in
-    reads_more c.args.largest c.loop-k.k c.args.sheet.now c.in-ok-record.record c.loop-k.ports c.if-k-lt32.ports c.loop-k.above c.if-above.above c.loop-k.invariant here
+    let here = sym (c.in_ok-record.ensures.value ∙ (λ i. read_at 8 read_port (new.index i) (new.sheet i))) in
+    reads_more c.args.largest c.loop-k.k c.args.sheet.now c.in_ok-record.record c.loop-k.ports c.if-k-lt32.ports c.loop-k.above c.if-above.above c.loop-k.invariant here
     (elim c.if-k-lt32.branch [ then-k-lt32 w ↦ inl (w.if-k-lt32.true, w.ports-is) | else-k-lt32 w ↦ inr (w.if-k-lt32.false, w.ports-is) ])
     (elim c.if-above.branch [
       | then-above w ↦ w.above-is ∙ w.if-above.true ∙ sym (or_left _ _ w.if-above.true)
-      | else-above w ↦ w.above-is ∙ sym (ap (λ (b : Bool). b || ltb c.args.largest c.in-ok-record.record.best_effort) w.if-above.false)
+      | else-above w ↦ w.above-is ∙ sym (ap (λ (b : Bool). b || ltb c.args.largest c.in_ok-record.record.best_effort) w.if-above.false)
     ])
 
 pub returns : goal.returns
 returns c =
     let most = c.args.largest in
     let sheet = c.args.sheet.now in
-    let all : c.loop-k.k ≡ c.in-ok-count.count = omega arith in
+    let all : c.loop-k.k ≡ c.in_ok-count.count = omega arith in
     record {
-      reads = subst (λ (r : Result (List PortRecord) RecordFault). Reads most r (Ok (record { count = c.in-ok-count.count; ports = c.loop-k.ports; above = c.loop-k.above })))
-          (front-all sheet c.in-ok-count.count c.in-ok-count.ensures.value)
+      reads = subst (λ (r : Result (List PortRecord) RecordFault). Reads most r (Ok (record { count = c.in_ok-count.count; ports = c.loop-k.ports; above = c.loop-k.above })))
+          (front-all sheet c.in_ok-count.count c.in_ok-count.ensures.value)
           (subst (λ (n : ℕ). Reads most (front sheet n) (Ok (record { count = n; ports = c.loop-k.ports; above = c.loop-k.above }))) all c.loop-k.invariant);
     }

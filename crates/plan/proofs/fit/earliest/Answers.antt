@@ -7,22 +7,22 @@ use Rattle.planning.proofs.Lists.{least_unique}
 use Rattle.plan.specs.Rows.{flow, flows}
 use Rattle.plan.proofs.fit.earliest.Goals as goal
 
-pub returns-in-err-at : goal.returns-in-err-at
-returns-in-err-at c =
+pub returns-in_err-at : goal.returns-in_err-at
+returns-in_err-at c =
     let f = flow c.args.new.now in
     let all = flows c.args.rows.now in
     let taken : (r : ℕ) → r < f.period → fits all (starting r f) ≡ false = λ r below. elim (dec_lt r c.loop-at.s) [
       | yes before ↦ ap not (c.loop-at.invariant.1 r before)
-      | no from ↦ ap not (c.in-err-at.ensures.skips r (omega arith) below)
+      | no from ↦ ap not (c.in_err-at.ensures.skips r (omega arith) below)
     ] in
-    rw c.from-residual.ensures (record { value = sym (least_unique (λ s. fits all (starting s f)) 0 f.period None (λ r _ below. taken r (omega arith))) })
+    rw c.from_residual.ensures (record { value = sym (least_unique (λ s. fits all (starting s f)) 0 f.period None (λ r _ below. taken r (omega arith))) })
 
 pub returns-then-at-s : goal.returns-then-at-s
 returns-then-at-s c =
     let f = flow c.args.new.now in
     let all = flows c.args.rows.now in
     let s = c.loop-at.s in
-    let skips = c.in-ok-at.ensures.skips in
+    let skips = c.in_ok-at.ensures.skips in
     let below = c.loop-at.invariant.0 in
     record {
       value = sym (least_unique (λ r. fits all (starting r f)) 0 f.period (Some s)

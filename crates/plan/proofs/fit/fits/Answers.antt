@@ -5,4 +5,4 @@ use Rattle.plan.proofs.fit.fits.Goals as goal
 pub returns-in-None : goal.returns-in-None
 returns-in-None c =
     let new = c.args.new.now in
-    record { value = sym (ap not (c.in-None.ensures.skips new.start (omega arith) c.requires.new-kept.start)) }
+    record { value = sym (ap not (c.in-None.ensures.skips new.start (omega arith) c.requires.new_kept.start)) }

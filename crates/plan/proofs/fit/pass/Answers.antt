@@ -6,14 +6,14 @@ use Rattle.plan.specs.Rows.{flow, none}
 use Rattle.plan.proofs.Skipping.{taken_by, taken_none}
 use Rattle.plan.proofs.fit.pass.Goals as goal
 
-pub returns-in-err-at : goal.returns-in-err-at
-returns-in-err-at c =
+pub returns-in_err-at : goal.returns-in_err-at
+returns-in_err-at c =
     let rows = c.args.rows.now in
     let f = flow c.args.new.now in
-    rw c.from-residual.ensures (record {
+    rw c.from_residual.ensures (record {
       skips = λ r more less. elim (dec_lt r c.loop-row.at) [
         | yes before ↦ c.loop-row.invariant.2 r more before
-        | no from ↦ taken_by rows f r c.loop-row.row-index c.loop-row-test.true (c.in-err-at.ensures.skips r (omega arith) less)
+        | no from ↦ taken_by rows f r c.loop-row.row-index c.loop-row-test.true (c.in_err-at.ensures.skips r (omega arith) less)
       ];
     })
 
@@ -23,7 +23,7 @@ loop-row-preserved c =
     let f = flow c.args.new.now in
     let s = c.args.s in
     let inv = c.loop-row.invariant in
-    let skips = c.in-ok-at.ensures.skips in
+    let skips = c.in_ok-at.ensures.skips in
     let moved = skips.0 in
     let stayed = inv.0 in (
       omega arith,
@@ -34,7 +34,7 @@ loop-row-preserved c =
       ],
       λ same.
           let before : c.loop-row.at ≡ s = omega arith in
-          let here : c.in-ok-at.at ≡ c.loop-row.at = omega arith in
+          let here : c.in_ok-at.at ≡ c.loop-row.at = omega arith in
           below_more (λ k. blocks (get_or rows k none) f s ≡ false) c.loop-row.row-index (inv.3 before)
           (subst (λ (r : ℕ). blocks (get_or rows c.loop-row.row-index none) f r ≡ false) before (skips.3 here)),
     )

@@ -7,7 +7,7 @@ use Rattle.plan.specs.Rows.{flows, none}
 use Rattle.plan.specs.Setups.{setup}
 use Rattle.plan.proofs.Totals.{flowspan-free, flowspan-held}
 use Rattle.plan.proofs.flowspan.flowspan.Goals as goal
-use Rattle.plan.proofs.flowspan.flowspan.Goals.{in-Held+then-span-end, in-Held+else-span-end, in-default}
+use Rattle.plan.proofs.flowspan.flowspan.Goals.{in-Held+then-span-end, in-Held+else-span-end, in_default}
 
 pub loop-row-preserved : goal.loop-row-preserved
 loop-row-preserved c = λ m.
@@ -22,7 +22,7 @@ loop-row-preserved c = λ m.
     elim c.match-row.branch [
       | in-Held+then-span-end w ↦ let held = flowspan-held net row rest span w.in-Held.is in let time = w.total.ensures.value m in omega arith
       | in-Held+else-span-end w ↦ let held = flowspan-held net row rest span w.in-Held.is in let time = w.total.ensures.value m in omega arith
-      | in-default w ↦ let free = flowspan-free net row rest span w.in-default.not-Held in omega arith
+      | in_default w ↦ let free = flowspan-free net row rest span w.in_default.not-Held in omega arith
     ]
 
 pub returns : goal.returns

@@ -5,7 +5,7 @@ use Rattle.plan.specs.Looks.{left_at, next_at}
 use Rattle.plan.specs.Rows.{flows}
 use Rattle.plan.proofs.Looking.{of-flows-≤, rows-held, rows-free, rows_all}
 use Rattle.plan.proofs.gates.see.Goals as goal
-use Rattle.plan.proofs.gates.see.Goals.{in-Held, in-default}
+use Rattle.plan.proofs.gates.see.Goals.{in-Held, in_default}
 
 pub loop-row-init : goal.loop-row-init
 loop-row-init c =
@@ -25,9 +25,9 @@ loop-row-preserved c =
           let left_is = ap (λ (l : Look). l.left) w.seen-is in
           let next-is = ap (λ (l : Look). l.next) w.seen-is in
           omega arith
-      | in-default w ↦
-          let left = rows-free max 0 (left_at y) q rows k c.loop-row-test.true w.in-default.not-Held in
-          let next = rows-free min 0xffff_ffff (next_at y) q rows k c.loop-row-test.true w.in-default.not-Held in
+      | in_default w ↦
+          let left = rows-free max 0 (left_at y) q rows k c.loop-row-test.true w.in_default.not-Held in
+          let next = rows-free min 0xffff_ffff (next_at y) q rows k c.loop-row-test.true w.in_default.not-Held in
           let left_is = ap (λ (l : Look). l.left) w.seen-is in
           let next-is = ap (λ (l : Look). l.next) w.seen-is in
           omega arith

@@ -11,7 +11,7 @@ returns-then-octet c =
     let states = state_by c.args.guard (flows c.args.rows.now) c.args.port in
     let y = c.args.place in
     let found = c.loop-found.found in
-    let more = c.state-at-more in
+    let more = c.state_at-more in
     let inv = c.loop-found.invariant in
     let at = subst (λ (x : ℕ). states x ≡ octet_of more.result.state) (add-zero (y + found.duration)) (more.ensures.lasts 0 more.ensures.some) in
     record {
@@ -25,7 +25,7 @@ pub loop-found-preserved : goal.loop-found-preserved
 loop-found-preserved c =
     let states = state_by c.args.guard (flows c.args.rows.now) c.args.port in
     let found = c.loop-found.found in
-    let more = c.state-at-more in
+    let more = c.state_at-more in
     let same = sym c.octet.ensures.value ∙ c.if-octet.false ∙ c.octet-in-loop-found.ensures.value in (
       omega arith,
       omega arith,

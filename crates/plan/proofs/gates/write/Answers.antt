@@ -18,8 +18,8 @@ loop-place-preserved c =
     let long = c.requires.long in (
       c.stretch-found.ensures.within,
       omega arith,
-      gates_more c.loop-place.at n x (from (y + x.duration)) (from y) c.loop-place.buffer c.write-at.new.buffer
-          (omega arith) (omega arith) first c.write-at.ensures.after ∙ c.loop-place.invariant.2,
+      gates_more c.loop-place.at n x (from (y + x.duration)) (from y) c.loop-place.buffer c.write_at.new.buffer
+          (omega arith) (omega arith) first c.write_at.ensures.after ∙ c.loop-place.invariant.2,
     )
 
 pub returns : goal.returns

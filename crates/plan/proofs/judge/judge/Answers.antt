@@ -22,7 +22,7 @@ returns-then-frame-longest g c =
     let x = offered c.args.frame c.args.period c.args.deadline c.args.route.now in
     record {
       judged = unfit-length g.L.Line.most (g.L.Line.meaning c.args.line.now) c.args.setup.now x c.ports.result c.ports.ensures.value
-          c.if-not-regular.ensures.value c.in-default.ensures.value (omega arith);
+          c.if-not-regular.ensures.value c.in_default.ensures.value (omega arith);
     }
 
 pub returns-in-Some-overlong : goal.returns-in-Some-overlong
@@ -30,7 +30,7 @@ returns-in-Some-overlong g c =
     let x = offered c.args.frame c.args.period c.args.deadline c.args.route.now in
     record {
       judged = unfit-wire g.L.Line.most (g.L.Line.meaning c.args.line.now) c.args.setup.now x c.ports.result c.ports.ensures.value c.timed-timing.result c.timed-timing.ensures.times
-          c.if-not-regular.ensures.value c.in-default.ensures.value (omega arith) c.in-Some-overlong.ensures.value;
+          c.if-not-regular.ensures.value c.in_default.ensures.value (omega arith) c.in-Some-overlong.ensures.value;
     }
 
 pub returns-then-timing-deadline : goal.returns-then-timing-deadline
@@ -38,7 +38,7 @@ returns-then-timing-deadline g c =
     let x = offered c.args.frame c.args.period c.args.deadline c.args.route.now in
     record {
       judged = unfit-deadline g.L.Line.most (g.L.Line.meaning c.args.line.now) c.args.setup.now x c.ports.result c.ports.ensures.value c.timed-timing.result c.timed-timing.ensures.times
-          c.if-not-regular.ensures.value c.in-default.ensures.value (omega arith) c.in-default-overlong.ensures.value c.if-timing-deadline.true;
+          c.if-not-regular.ensures.value c.in_default.ensures.value (omega arith) c.in_default-overlong.ensures.value c.if-timing-deadline.true;
     }
 
 pub returns : goal.returns
@@ -46,5 +46,5 @@ returns g c =
     let x = offered c.args.frame c.args.period c.args.deadline c.args.route.now in
     record {
       judged = passes g.L.Line.most (g.L.Line.meaning c.args.line.now) c.args.setup.now x c.ports.result c.ports.ensures.value c.timed-timing.result c.timed-timing.ensures.times
-          c.if-not-regular.ensures.value c.in-default.ensures.value (omega arith) c.requires.few c.in-default-overlong.ensures.value c.if-timing-deadline.false;
+          c.if-not-regular.ensures.value c.in_default.ensures.value (omega arith) c.requires.few c.in_default-overlong.ensures.value c.if-timing-deadline.false;
     }

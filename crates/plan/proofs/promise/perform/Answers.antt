@@ -7,18 +7,18 @@ use Rattle.plan.specs.Alike.{Alike}
 use Rattle.plan.specs.Calls.{Model, Wires, empty}
 use Rattle.plan.specs.Models.{model, setup, wires}
 use Rattle.plan.specs.Steps.{after, next, reply, replies, written, buffered}
-use Rattle.plan.proofs.Assured.{always-assured}
+use Rattle.plan.proofs.Assured.{always-assured, lists_always_fit}
 use Rattle.plan.proofs.Called.{same_of}
 use Rattle.plan.proofs.CallsInOrder.{step-performed, after-all, replies-all, buffered-all}
 use Rattle.plan.proofs.promise.perform.Goals as goal
 
-pub returns-in-default : goal.returns-in-default
-returns-in-default g c =
+pub returns-in_default : goal.returns-in_default
+returns-in_default g c =
     let x = c.args.line in
     let met = g.met.L.Line in
     let w = wires g.L.Line.most (g.L.Line.meaning x) in
     let rules = rules-from w.most w.meaning met.least met.greatest (met.some x) (met.few x) (met.absent x) (met.short x) (met.long x) (met.timed x) (met.bounded x) (met.longer x) in
-    record { answers = tt; line = refl; holds = tt; buffer = refl; assured = always-assured w rules c.args.calls.now }
+    record { answers = tt; line = refl; holds = tt; buffer = refl; assured = always-assured w rules c.args.calls.now; lists = lists_always_fit w rules c.args.calls.now }
 
 pub loop-call-init : goal.loop-call-init
 loop-call-init g c =
@@ -46,7 +46,7 @@ loop-call-preserved g c =
     let left = subst (λ (v : Wires). Alike (model c.call.new.self.setup c.call.new.self.rows) (next v m call)) same does.after in
     let step = step-performed w rules cs i call below (get_or_default cs i _ call below) (length c.args.buffer.now) c.args.buffer.now m (vec_items c.loop-call.answers) c.loop-call.buffer
     inv.1 inv.2 inv.3 (model c.call.new.self.setup c.call.new.self.rows) c.call.result c.call.new.buffer left replied wrote in
-    let pushed = c.push-reserved.ensures in
+    let pushed = c.push_reserved.ensures in
     let long = inv.4 in
     let room = inv.5 in
     (does.line ∙ inv.0, step.0, pushed.items ∙ step.1, step.2, omega arith, omega arith)
@@ -70,4 +70,5 @@ returns g c =
       holds = subst (λ (n : Model). Alike m n) (ap (λ (v : Wires). after v empty (take i cs)) w' ∙ after-all cs i over w empty) inv.1;
       buffer = inv.3 ∙ ap (λ (v : Wires). buffered v empty c.args.buffer.now (take i cs)) w' ∙ buffered-all cs i over w empty c.args.buffer.now;
       assured = always-assured w rules cs;
+      lists = lists_always_fit w rules cs;
     }

@@ -9,9 +9,9 @@ loop-k-preserved g c =
     let route = c.args.route.now in
     let k = c.loop-k.k in
     let short = g.met.L.Line.bounded line (get_or route k 0) c.args.frame in
-    so_far_more (g.L.Line.meaning line) c.args.setup.now c.args.frame route k c.loop-k.hops c.loop-k.offset c.loop-k.total c.wire-time-wire.result
+    so_far_more (g.L.Line.meaning line) c.args.setup.now c.args.frame route k c.loop-k.hops c.loop-k.offset c.loop-k.total c.wire_time-wire.result
     c.port-figures.result c.requires.few c.loop-k-test.true c.port-figures.ensures.value c.port-figures.ensures.delay c.port-figures.ensures.processing
-    c.wire-time-wire.ensures.value (omega arith) c.loop-k.invariant
+    c.wire_time-wire.ensures.value (omega arith) c.loop-k.invariant
 
 pub returns : goal.returns
 returns g c =

@@ -6,7 +6,7 @@ use Rattle.sheet.proofs.field.field.Goals as goal
 
 pub returns : goal.returns
 returns c =
-    let octets : Octets c.args.octets.now = λ i. let fits = c.type-inv.octets i in omega arith in
+    let octets : Octets c.args.octets.now = λ i. let fits = c.type_inv.octets i in omega arith in
     let short : c.args.width < 64 = omega arith in
     let inside : c.args.first + c.args.width ≤ 8 * ((c.args.first + c.args.width + 7) / 8) = omega arith in
     let whole : (c.args.first + c.args.width + 7) / 8 ≤ length c.args.octets.now = omega arith in

@@ -4,26 +4,26 @@ use Rattle.sheet.proofs.Placed.{put_mid-part}
 use Rattle.sheet.proofs.Writings.{answered-done}
 use Rattle.sheet.proofs.writer.put_record.Goals as goal
 
-pub overflow-mul-first : goal.overflow-mul-first
-overflow-mul-first g c =
-    let size = ap (λ (z : ℕ). c.args.index * z) c.octet-count-size.ensures.value in
+pub overflow_mul-first : goal.overflow_mul-first
+overflow_mul-first g c =
+    let size = ap (λ (z : ℕ). c.args.index * z) c.octet_count-size.ensures.value in
     omega arith
 
-pub overflow-add-first : goal.overflow-add-first
-overflow-add-first g c =
-    let size = ap (λ (z : ℕ). c.args.index * z) c.octet-count-size.ensures.value in
+pub overflow_add-first : goal.overflow_add-first
+overflow_add-first g c =
+    let size = ap (λ (z : ℕ). c.args.index * z) c.octet_count-size.ensures.value in
     omega arith
 
-pub slice-bounds-write-end : goal.slice-bounds-write-end
-slice-bounds-write-end g c =
-    let size = ap (λ (z : ℕ). c.args.index * z) c.octet-count-size.ensures.value in
+pub slice_bounds-write-end : goal.slice_bounds-write-end
+slice_bounds-write-end g c =
+    let size = ap (λ (z : ℕ). c.args.index * z) c.octet_count-size.ensures.value in
     omega arith
 
 pub returns : goal.returns
 returns g c =
-    let z : ℕ = c.octet-count-size.result in
+    let z : ℕ = c.octet_count-size.result in
     let a : ℕ = c.args.index * z in
-    let is : z ≡ g.K.RecordKind.long = c.octet-count-size.ensures.value in
+    let is : z ≡ g.K.RecordKind.long = c.octet_count-size.ensures.value in
     let first = ap (λ (n : ℕ). c.args.index * n) is in
     let part : List ℕ = take (a + z - a) (drop a c.args.buffer.now) in
     let fits : g.K.RecordKind.long ≤ length part = simp (length-take, length-drop) (omega arith) in

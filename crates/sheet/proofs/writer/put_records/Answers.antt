@@ -3,8 +3,8 @@ use Rattle.sheet.proofs.Judgments.{judged-at}
 use Rattle.sheet.proofs.Placed.{place_more, place-all}
 use Rattle.sheet.proofs.writer.put_records.Goals as goal
 
-pub put-record-requires : goal.put-record-requires
-put-record-requires g c =
+pub put_record-requires : goal.put_record-requires
+put_record-requires g c =
     let item = c.index-records-index.result in
     let judged = judged-at g.K.RecordKind.judging c.args.records.now 0 c.loop-index.index item c.index-records-index.is c.loop-index-test.true c.requires.judged in
     let read = g.met.K.RecordKind.readback item (0 + c.loop-index.index) 0 judged in
@@ -19,7 +19,7 @@ put-record-requires g c =
 pub loop-index-preserved : goal.loop-index-preserved
 loop-index-preserved g c =
     place_more g.K.RecordKind.long g.K.RecordKind.written g.met.K.RecordKind.whole c.args.records.now c.loop-index.index c.index-records-index.result
-    c.loop-index.buffer c.args.buffer.now c.put-record.new.buffer c.index-records-index.is c.loop-index-test.true c.loop-index.invariant c.put-record.ensures.after
+    c.loop-index.buffer c.args.buffer.now c.put_record.new.buffer c.index-records-index.is c.loop-index-test.true c.loop-index.invariant c.put_record.ensures.after
 
 pub returns : goal.returns
 returns g c =

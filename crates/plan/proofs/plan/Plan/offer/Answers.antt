@@ -23,15 +23,15 @@ use Rattle.plan.proofs.plan.Plan.offer.Goals as goal
 
 pub place-requires : goal.place-requires
 place-requires g c =
-    record { limited = read_at_ok Limited 21 read_flow flow_limited c.new.result.index _ c.in-ok-flow.flow (sym c.in-ok-flow.ensures.value) }
+    record { limited = read_at_ok Limited 21 read_flow flow_limited c.new.result.index _ c.in_ok-flow.flow (sym c.in_ok-flow.ensures.value) }
 
-pub invariant-of-self : goal.invariant-of-self
-invariant-of-self g c =
+pub invariant_of-self : goal.invariant_of-self
+invariant_of-self g c =
     let plan = c.args.self.now in
     let rows = plan.rows in
-    let k = c.in-ok-k.k in
-    let new = c.in-ok-k.row in
-    let placed = c.in-ok-k.ensures.placed in
+    let k = c.in_ok-k.k in
+    let new = c.in_ok-k.row in
+    let placed = c.in_ok-k.ensures.placed in
     let long = plan.long in
     let row = placed.row in
     let below : k < 64 = omega arith in
@@ -46,25 +46,33 @@ invariant-of-self g c =
     (two-added Overlap rows k new long below
     (λ j within busy overlap. let at = flows-at rows j (omega arith) busy in clear at.0 _ at.1 overlap)
     (λ j within busy overlap. let at = flows-at rows j (omega arith) busy in clear at.0 _ at.1 (overlap-sym overlap))) in
-    (laws.long, (laws_starts laws, (laws_counts laws, (laws-hops laws, (laws.numbers, (laws.apart, (λ unset. never_both c.in-Some.is unset, tt)))))))
+    record {
+      long = laws.long;
+      starts = laws_starts laws;
+      counts = laws_counts laws;
+      hops = laws-hops laws;
+      numbers = laws.numbers;
+      apart = laws.apart;
+      waiting = λ unset. never_both c.in-Some.is unset;
+    }
 
 pub returns : goal.returns
 returns g c =
     let plan = c.args.self.now in
-    let placed = c.in-ok-k.ensures.placed in
+    let placed = c.in_ok-k.ensures.placed in
     let w = wires g.L.Line.most (g.L.Line.meaning plan.line) in
     let m = model plan.setup plan.rows in
     let sheet = c.args.flows.now in
-    let x = c.in-ok-flow.flow in
-    let read = sym (c.in-ok-flow.ensures.value ∙ ap₂ (λ (i : ℕ) (s : List ℕ). read_at 21 read_flow i s) c.new.ensures.index c.new.ensures.sheet) in
+    let x = c.in_ok-flow.flow in
+    let read = sym (c.in_ok-flow.ensures.value ∙ ap₂ (λ (i : ℕ) (s : List ℕ). read_at 21 read_flow i s) c.new.ensures.index c.new.ensures.sheet) in
     let ready = ap setup c.in-Some.is in
     let config = stored.setup c.in-Some.setup in
-    let s = c.in-ok-k.row.start in
-    let rows = set plan.rows c.in-ok-k.k c.in-ok-k.row in
+    let s = c.in_ok-k.row.start in
+    let rows = set plan.rows c.in_ok-k.k c.in_ok-k.row in
     record {
       value = sym (offer_read w m sheet c.args.index x config read ready ∙ placed.done);
       line = refl;
       setup = refl;
       after = subst (λ (fs : List Flow). Same (flows rows) fs) (sym (added_read w m sheet c.args.index x config read ready s))
-          (subst (λ (f : Flow). Same (flows rows) (f ∷ flows plan.rows)) placed.holds (flows-added plan.rows c.in-ok-k.k c.in-ok-k.row placed.row placed.free placed.state));
+          (subst (λ (f : Flow). Same (flows rows) (f ∷ flows plan.rows)) placed.holds (flows-added plan.rows c.in_ok-k.k c.in_ok-k.row placed.row placed.free placed.state));
     }

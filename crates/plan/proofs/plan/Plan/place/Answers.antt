@@ -20,47 +20,47 @@ returns-in-Some g c =
     let found = c.in-Some.ensures.cases in
     record { placed = answer-held net g.L.Line.most (flows plan.rows) x (held-some x.number plan.rows _ found.0 found.1) }
 
-pub start-beside-requires : goal.start-beside-requires
-start-beside-requires g c =
+pub start_beside-requires : goal.start_beside-requires
+start_beside-requires g c =
     let plan = c.args.self.now in
     let long = plan.long in
     let laws = laws_of plan.rows plan.long plan.starts plan.counts plan.hops plan.numbers plan.apart in
-    record { kept = λ k below. laws.kept k (omega arith); row_kept = c.in-ok-row.ensures.made.kept }
+    record { kept = λ k below. laws.kept k (omega arith); row_kept = c.in_ok-row.ensures.made.kept }
 
-pub returns-in-err-row : goal.returns-in-err-row
-returns-in-err-row g c =
+pub returns-in_err-row : goal.returns-in_err-row
+returns-in_err-row g c =
     let plan = c.args.self.now in
     let x = offered c.args.flow.now in
     let net = network (g.L.Line.meaning plan.line) c.args.setup.now in
-    let p = err_from_is_err_and c.from-residual.result c.from-residual.ensures.1 in
-    let free = c.in-Some-free-row.ensures.cases in
+    let p = err_from_is_err_and c.from_residual.result c.from_residual.ensures.1 in
+    let free = c.in-Some-free_row.ensures.cases in
     rw (p.1, p.2) (record {
-      placed = answer-unfit net g.L.Line.most (flows plan.rows) x c.in-default.ensures.cases (room-left plan.rows _ plan.long free.0 free.1) c.in-err-row.ensures.made;
+      placed = answer-unfit net g.L.Line.most (flows plan.rows) x c.in_default.ensures.cases (room-left plan.rows _ plan.long free.0 free.1) c.in_err-row.ensures.made;
     })
 
-pub returns-in-err-start : goal.returns-in-err-start
-returns-in-err-start g c =
+pub returns-in_err-start : goal.returns-in_err-start
+returns-in_err-start g c =
     let plan = c.args.self.now in
     let x = offered c.args.flow.now in
     let net = network (g.L.Line.meaning plan.line) c.args.setup.now in
-    let p = err_from_is_err_and c.from-residual-in-err-start.result c.from-residual-in-err-start.ensures.1 in
-    let free = c.in-Some-free-row.ensures.cases in
-    let made = c.in-ok-row.ensures.made in
-    let done = answer-placed net g.L.Line.most (flows plan.rows) x c.in-default.ensures.cases (room-left plan.rows _ plan.long free.0 free.1) made.passes in
+    let p = err_from_is_err_and c.from_residual-in_err-start.result c.from_residual-in_err-start.ensures.1 in
+    let free = c.in-Some-free_row.ensures.cases in
+    let made = c.in_ok-row.ensures.made in
+    let done = answer-placed net g.L.Line.most (flows plan.rows) x c.in_default.ensures.cases (room-left plan.rows _ plan.long free.0 free.1) made.passes in
     let at = ap (λ (f : Flow). placed (flows plan.rows) x.chosen f) made.flow in
-    rw (p.1, p.2) (record { placed = done ∙ sym at ∙ sym c.in-err-start.ensures.value })
+    rw (p.1, p.2) (record { placed = done ∙ sym at ∙ sym c.in_err-start.ensures.value })
 
 pub returns : goal.returns
 returns g c =
     let plan = c.args.self.now in
     let x = offered c.args.flow.now in
     let net = network (g.L.Line.meaning plan.line) c.args.setup.now in
-    let row = c.in-ok-row.row in
-    let s = c.in-ok-start.start in
-    let free = c.in-Some-free-row.ensures.cases in
-    let made = c.in-ok-row.ensures.made in
-    let fresh = c.in-default.ensures.cases in
-    let value = c.in-ok-start.ensures.value in
+    let row = c.in_ok-row.row in
+    let s = c.in_ok-start.start in
+    let free = c.in-Some-free_row.ensures.cases in
+    let made = c.in_ok-row.ensures.made in
+    let fresh = c.in_default.ensures.cases in
+    let value = c.in_ok-start.ensures.value in
     let done = answer-placed net g.L.Line.most (flows plan.rows) x fresh (room-left plan.rows _ plan.long free.0 free.1) made.passes in
     let at = ap (λ (f : Flow). placed (flows plan.rows) x.chosen f) made.flow in
     let fitting = placed-fits (flows plan.rows) (chosen c.args.flow.now.start) (flow row) s (sym value) in

@@ -19,20 +19,20 @@ done : Result ℕ PlanFault → Result (Unit {0}) PlanFault
 done (Ok s) = Ok tt
 done (Err e) = Err e
 
-pub returns-in-default-find : goal.returns-in-default-find
+pub returns-in_default-find : goal.returns-in_default-find
 unfolding done
-returns-in-default-find g c =
+returns-in_default-find g c =
     let plan = c.args.self.now in
     let n = c.args.number in
-    let asked = start-answered (model plan.setup plan.rows) (stored.setup c.in-Some.field-0) n None (ap setup c.in-Some.is) (start_none n _ c.in-default-find.ensures.cases) in
+    let asked = start-answered (model plan.setup plan.rows) (stored.setup c.in-Some.field-0) n None (ap setup c.in-Some.is) (start_none n _ c.in_default-find.ensures.cases) in
     record { value = sym (ap done asked); line = refl; setup = refl; after = refl }
 
-pub invariant-of-self : goal.invariant-of-self
-invariant-of-self g c =
+pub invariant_of-self : goal.invariant_of-self
+invariant_of-self g c =
     let plan = c.args.self.now in
     let k = c.in-Some-find.k in
-    let new = c.no-row.result in
-    let is = c.no-row.ensures.value in
+    let new = c.no_row.result in
+    let is = c.no_row.ensures.value in
     let long = plan.long in
     let found = c.in-Some-find.ensures.cases in
     let below : k < 64 = omega arith in
@@ -41,7 +41,15 @@ invariant-of-self g c =
     let laws = laws-set plan.rows k new below (laws_of plan.rows plan.long plan.starts plan.counts plan.hops plan.numbers plan.apart) kept
     (two_freed Namesakes plan.rows k new long below freed) (two_freed Overlap plan.rows k new long below freed) in
     let ready = c.in-Some.is in
-    (laws.long, (laws_starts laws, (laws_counts laws, (laws-hops laws, (laws.numbers, (laws.apart, (λ unset. never_both ready unset, tt)))))))
+    record {
+      long = laws.long;
+      starts = laws_starts laws;
+      counts = laws_counts laws;
+      hops = laws-hops laws;
+      numbers = laws.numbers;
+      apart = laws.apart;
+      waiting = λ unset. never_both ready unset;
+    }
 
 pub returns : goal.returns
 unfolding done
@@ -49,7 +57,7 @@ returns g c =
     let plan = c.args.self.now in
     let n = c.args.number in
     let k = c.in-Some-find.k in
-    let new = c.no-row.result in
+    let new = c.no_row.result in
     let found = c.in-Some-find.ensures.cases in
     let long = plan.long in
     let asked = start-answered (model plan.setup plan.rows) (stored.setup c.in-Some.field-0) n (Some _) (ap setup c.in-Some.is) (start-found n plan.rows k found.0 found.1 found.2) in
@@ -57,6 +65,6 @@ returns g c =
       value = sym (ap done asked);
       line = refl;
       setup = refl;
-      after = flows_removed n plan.rows k new found.0 found.1 (ap (λ (r : Row). r.state) c.no-row.ensures.value)
+      after = flows_removed n plan.rows k new found.0 found.1 (ap (λ (r : Row). r.state) c.no_row.ensures.value)
           (only_row n plan.rows k plan.long plan.numbers found.0 found.1 found.2);
     }

@@ -8,8 +8,8 @@ use Rattle.plan.proofs.Any.{any_true, any_false}
 use Rattle.plan.proofs.Moving.{moves_wider}
 use Rattle.plan.proofs.row.Row.clears.Goals as goal
 
-pub returns-in-default : goal.returns-in-default
-returns-in-default c =
+pub returns-in_default : goal.returns-in_default
+returns-in_default c =
     let other = c.args.other.now in
     let row = c.args.self.now in
     let within : c.loop-j.j < length other.hops = omega arith in
@@ -18,7 +18,7 @@ returns-in-default c =
           (λ m passes.
           any_true (λ h. any (λ i. meets (starting (c.args.s + m) (flow other)) h (flow row) i) (flow row).hops) hop blank
           other.hops other.count c.loop-j.j (omega arith) within passes)
-          c.in-default.not-Clear c.clears-from.ensures.moves;
+          c.in_default.not-Clear c.clears_from.ensures.moves;
     }
 
 pub loop-j-preserved : goal.loop-j-preserved

@@ -14,5 +14,5 @@ returns c =
       moves = moves-same _ _ _
           (λ m. any_same _ _ (flow row).hops
           (λ i. clash-meets one c.args.s (flow other) (hop (get_or other.hops c.args.j blank)) (flow row) i made.1 made.2 made.3 m))
-          c.clears-port.ensures.moves;
+          c.clears_port.ensures.moves;
     }

@@ -6,8 +6,8 @@ use Rattle.plan.proofs.Any.{any_true, any_false}
 use Rattle.plan.proofs.Moving.{moves_wider}
 use Rattle.plan.proofs.row.Row.clears_port.Goals as goal
 
-pub returns-in-default : goal.returns-in-default
-returns-in-default c =
+pub returns-in_default : goal.returns-in_default
+returns-in_default c =
     let one = c.args.moving.now in
     let q = c.args.port in
     let row = c.args.self.now in
@@ -15,7 +15,7 @@ returns-in-default c =
     record {
       moves = moves_wider _ _ _
           (λ m passes. any_true (λ i. clash one q (flow row) i m) hop blank row.hops row.count c.loop-k.k (omega arith) within passes)
-          c.in-default.not-Clear c.clears-hop.ensures.moves;
+          c.in_default.not-Clear c.clears_hop.ensures.moves;
     }
 
 pub returns : goal.returns

@@ -14,7 +14,7 @@ returns-in-Clear c =
     let here : 0 ≡ s - s = omega arith in
     let clear = subst (λ (m : ℕ). overlaps (starting (s + m) f) (flow row) ≡ false) here c.in-Clear.ensures.moves in
     record {
-      skips = (omega arith, c.requires.below, λ r more less. absurd (omega arith), λ _. blocks_moved row f s s false c.in-default.not-Free (omega arith) clear);
+      skips = (omega arith, c.requires.below, λ r more less. absurd (omega arith), λ _. blocks_moved row f s s false c.in_default.not-Free (omega arith) clear);
     }
 
 pub returns-then-at-new : goal.returns-then-at-new
@@ -28,7 +28,7 @@ returns-then-at-new c =
       skips = (
         omega arith,
         c.if-at-new.true,
-        λ r more less. let m : r - s < c.in-After.n = omega arith in blocks_moved row f s r true c.in-default.not-Free more (after.1 (r - s) m),
+        λ r more less. let m : r - s < c.in-After.n = omega arith in blocks_moved row f s r true c.in_default.not-Free more (after.1 (r - s) m),
         λ same. absurd (omega arith),
       );
     }
@@ -39,9 +39,9 @@ returns-else-at-new c =
     let f = flow c.args.new.now in
     let s = c.args.s in
     let after = c.in-After.ensures.moves in
-    let few = c.requires.new-kept.period_most in
+    let few = c.requires.new_kept.period_most in
     record {
-      skips = λ r more less. let m : r - s < c.in-After.n = omega arith in blocks_moved row f s r true c.in-default.not-Free more (after.1 (r - s) m);
+      skips = λ r more less. let m : r - s < c.in-After.n = omega arith in blocks_moved row f s r true c.in_default.not-Free more (after.1 (r - s) m);
     }
 
 pub returns-in-Never : goal.returns-in-Never
@@ -49,4 +49,4 @@ returns-in-Never c =
     let row = c.args.self.now in
     let f = flow c.args.new.now in
     let s = c.args.s in
-    record { skips = λ r more less. blocks_moved row f s r true c.in-default.not-Free more (c.in-Never.ensures.moves (r - s)) }
+    record { skips = λ r more less. blocks_moved row f s r true c.in_default.not-Free more (c.in-Never.ensures.moves (r - s)) }

@@ -4,14 +4,14 @@ use Rattle.sheet.specs.Fields.{packed}
 use Rattle.sheet.proofs.Routes.{fives, fives_more, fives-route, port-lt, slot_more, route-fits}
 use Rattle.sheet.proofs.flow.FlowRecord.packed_route.Goals as goal
 
-pub overflow-mul-route : goal.overflow-mul-route
-overflow-mul-route c =
+pub overflow_mul-route : goal.overflow_mul-route
+overflow_mul-route c =
     let few : c.loop-port.port-index ≤ 8 = omega arith in
     let fits = route-fits c.loop-port.port-index c.loop-port.route c.loop-port.invariant.1 few in
     omega arith
 
-pub overflow-add-route : goal.overflow-add-route
-overflow-add-route c =
+pub overflow_add-route : goal.overflow_add-route
+overflow_add-route c =
     let few : c.loop-port.port-index ≤ 8 = omega arith in
     let fits = route-fits c.loop-port.port-index c.loop-port.route c.loop-port.invariant.1 few in
     let narrow = port-lt c.args.self.now.ports c.loop-port.port-index c.requires.fits c.loop-port-test.true in

@@ -4,21 +4,21 @@ use Rattle.sheet.specs.Fields.{Octets}
 use Rattle.sheet.specs.GatesLemmas.{gate_reading}
 use Rattle.sheet.proofs.gate.GateRecordRecordKind.read.Goals as goal
 
-pub returns-in-err-judge : goal.returns-in-err-judge
-returns-in-err-judge c =
-    let fault = err_from_is_err_and c.from-residual.result c.from-residual.ensures.1 in
+pub returns-in_err-judge : goal.returns-in_err-judge
+returns-in_err-judge c =
+    let fault = err_from_is_err_and c.from_residual.result c.from_residual.ensures.1 in
     let long : length c.args.octets.now ≡ 5 = omega (arith, ltb-false, ltb-true) in
-    let octets : Octets c.args.octets.now = λ i. let fits = c.type-inv.octets i in omega arith in
-    let is = gate_reading c.args.index c.args.octets.now octets long c.from-be-bytes-word.result c.from-be-bytes-word.ensures c.from-octet.result c.from-octet.ensures.value
-    (Err c.in-err-judge.field-0.0) c.zero-spare.result c.limits.result c.zero-spare.ensures.value c.limits.ensures.value c.in-err-judge.ensures.value in
+    let octets : Octets c.args.octets.now = λ i. let fits = c.type_inv.octets i in omega arith in
+    let is = gate_reading c.args.index c.args.octets.now octets long c.from_be_bytes-word.result c.from_be_bytes-word.ensures c.from_octet.result c.from_octet.ensures.value
+    (Err c.in_err-judge.field-0.0) c.zero-spare.result c.limits.result c.zero-spare.ensures.value c.limits.ensures.value c.in_err-judge.ensures.value in
     record { value = fault.1 ∙ ap Err fault.2 ∙ is }
 
 pub returns : goal.returns
 returns c =
     let long : length c.args.octets.now ≡ 5 = omega (arith, ltb-false, ltb-true) in
-    let octets : Octets c.args.octets.now = λ i. let fits = c.type-inv.octets i in omega arith in
+    let octets : Octets c.args.octets.now = λ i. let fits = c.type_inv.octets i in omega arith in
     record {
       value =
-          gate_reading c.args.index c.args.octets.now octets long c.from-be-bytes-word.result c.from-be-bytes-word.ensures c.from-octet.result c.from-octet.ensures.value
-          (Ok tt) c.zero-spare.result c.limits.result c.zero-spare.ensures.value c.limits.ensures.value c.in-ok-judge.ensures.value;
+          gate_reading c.args.index c.args.octets.now octets long c.from_be_bytes-word.result c.from_be_bytes-word.ensures c.from_octet.result c.from_octet.ensures.value
+          (Ok tt) c.zero-spare.result c.limits.result c.zero-spare.ensures.value c.limits.ensures.value c.in_ok-judge.ensures.value;
     }

@@ -7,18 +7,18 @@ returns-then-self-size c =
     let outside = record_outside c.args.self.now.index (length c.args.self.now.sheet.now) c.args.size c.requires.some c.if-self-size.true in
     record { value = sym (octets_at_outside c.args.size c.args.self.now.index c.args.self.now.sheet.now outside) }
 
-pub overflow-mul-first : goal.overflow-mul-first
-overflow-mul-first c =
+pub overflow_mul-first : goal.overflow_mul-first
+overflow_mul-first c =
     let inside = record_inside c.args.self.now.index (length c.args.self.now.sheet.now) c.args.size c.if-self-size.false in
     omega arith
 
-pub overflow-add-result : goal.overflow-add-result
-overflow-add-result c =
+pub overflow_add-result : goal.overflow_add-result
+overflow_add-result c =
     let inside = record_inside c.args.self.now.index (length c.args.self.now.sheet.now) c.args.size c.if-self-size.false in
     omega arith
 
-pub slice-bounds-result-end : goal.slice-bounds-result-end
-slice-bounds-result-end c =
+pub slice_bounds-result-end : goal.slice_bounds-result-end
+slice_bounds-result-end c =
     let inside = record_inside c.args.self.now.index (length c.args.self.now.sheet.now) c.args.size c.if-self-size.false in
     omega arith
 
