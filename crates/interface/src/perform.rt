@@ -45,7 +45,7 @@ pub(crate) fn performed<L: Line + Drop>(
     answers: &mut [u8],
     buffer: &mut [u8],
 ) -> i64
-    ensures performs { Performs (wires most (meaning line)) calls.now answers.old buffer.old (came_to result answers.new buffer.new) }
+    ensures performs { Performs (wires L.most (L.meaning line)) calls.now answers.old buffer.old (came_to result answers.new buffer.new) }
 {
     let Some(count) = call_count(calls) else {
         return NO_CALLS;

@@ -10,11 +10,11 @@ loop-rest-init c = (none_and_more (counted (calls_of c.args.calls.now)), omega a
 
 pub loop-rest-smaller : goal.loop-rest-smaller
 loop-rest-smaller c =
-    let read = c.in-ok-behind.ensures.value in
-    first_shorter c.loop-rest.rest.now _ c.in-ok-behind.behind.now read
+    let read = c.in_ok-behind.ensures.value in
+    first_shorter c.loop-rest.rest.now _ c.in_ok-behind.behind.now read
 
 pub loop-rest-preserved : goal.loop-rest-preserved
 loop-rest-preserved c =
-    let read = c.in-ok-behind.ensures.value in
-    let less = first_shorter c.loop-rest.rest.now _ c.in-ok-behind.behind.now read in
-    (c.loop-rest.invariant.0 ∙ counts-one c.loop-rest.count c.loop-rest.rest.now _ c.in-ok-behind.behind.now read, omega arith)
+    let read = c.in_ok-behind.ensures.value in
+    let less = first_shorter c.loop-rest.rest.now _ c.in_ok-behind.behind.now read in
+    (c.loop-rest.invariant.0 ∙ counts-one c.loop-rest.count c.loop-rest.rest.now _ c.in_ok-behind.behind.now read, omega arith)

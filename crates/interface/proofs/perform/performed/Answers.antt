@@ -24,11 +24,11 @@ rules g x =
     let met = g.met.L.Line in
     rules-from g.L.Line.most (g.L.Line.meaning x) met.least met.greatest (met.some x) (met.few x) (met.absent x) (met.short x) (met.long x) (met.timed x) (met.bounded x) (met.longer x)
 
-pub returns-in-default : goal.returns-in-default
-returns-in-default g c =
+pub returns-in_default : goal.returns-in_default
+returns-in_default g c =
     let w = wires g.L.Line.most (g.L.Line.meaning c.args.line) in
     let calls = c.args.calls.now in
-    let is = no-calls w c.args.answers.now c.args.buffer.now (calls_of calls) (not-counted (calls_of calls) c.in-default.ensures.value) in
+    let is = no-calls w c.args.answers.now c.args.buffer.now (calls_of calls) (not-counted (calls_of calls) c.in_default.ensures.value) in
     record { performs = record { outcome = is; assured = always-assured w (rules g c.args.line) (said calls) } }
 
 pub returns-then-answers-count : goal.returns-then-answers-count
@@ -48,32 +48,32 @@ loop-call-init g c =
     let count = is-counted (calls_of calls) c.in-Some.count c.in-Some.ensures.value in
     (refl, going-at-first w (listed (calls_of calls)) c.args.answers.now c.args.buffer.now calls _ count.0 (record { setup = ap setup made.setup; held = same_of made.held }))
 
-pub write-answer-requires : goal.write-answer-requires
-write-answer-requires g c =
+pub write_answer-requires : goal.write_answer-requires
+write_answer-requires g c =
     let calls = c.args.calls.now in
     let many = (is-counted (calls_of calls) c.in-Some.count c.in-Some.ensures.value).1 in
     let room = room-left _ (listed (calls_of calls)) c.args.answers.now c.args.buffer.now c.loop-call.at c.loop-call.rest.now _ c.loop-call.answers c.loop-call.buffer c.loop-call.invariant.1
-    (spoken c.in-Some-read-call.call) c.in-Some-read-call.behind.now c.in-Some-read-call.ensures.value in
+    (spoken c.in-Some-read_call.call) c.in-Some-read_call.behind.now c.in-Some-read_call.ensures.value in
     let kept = c.loop-call.auto.answers in
     record { long = omega arith }
 
-pub overflow-add-at : goal.overflow-add-at
-overflow-add-at g c =
+pub overflow_add-at : goal.overflow_add-at
+overflow_add-at g c =
     let calls = c.args.calls.now in
     let many = (is-counted (calls_of calls) c.in-Some.count c.in-Some.ensures.value).1 in
     let room = room-left _ (listed (calls_of calls)) c.args.answers.now c.args.buffer.now c.loop-call.at c.loop-call.rest.now _ c.loop-call.answers c.loop-call.buffer c.loop-call.invariant.1
-    (spoken c.in-Some-read-call.call) c.in-Some-read-call.behind.now c.in-Some-read-call.ensures.value in
+    (spoken c.in-Some-read_call.call) c.in-Some-read_call.behind.now c.in-Some-read_call.ensures.value in
     omega arith
 
 pub loop-call-smaller : goal.loop-call-smaller
-loop-call-smaller g c = first_shorter c.loop-call.rest.now (spoken c.in-Some-read-call.call) c.in-Some-read-call.behind.now c.in-Some-read-call.ensures.value
+loop-call-smaller g c = first_shorter c.loop-call.rest.now (spoken c.in-Some-read_call.call) c.in-Some-read_call.behind.now c.in-Some-read_call.ensures.value
 
 pub loop-call-preserved : goal.loop-call-preserved
 loop-call-preserved g c =
     let x = c.new-plan.result.line in
     let w = wires g.L.Line.most (g.L.Line.meaning x) in
     let calls = c.args.calls.now in
-    let d = c.in-Some-read-call.call in
+    let d = c.in-Some-read_call.call in
     let plan = c.loop-call.plan in
     let m = model plan.setup plan.rows in
     let m' = model c.call.new.self.setup c.call.new.self.rows in
@@ -85,7 +85,7 @@ loop-call-preserved g c =
     let left = subst (λ (v : Wires). Alike m' (next v m d)) same does.after in (
       does.line ∙ inv.0,
       going_on w (listed (calls_of calls)) c.args.answers.now c.args.buffer.now (rules g x) c.loop-call.at c.loop-call.rest.now m c.loop-call.answers c.loop-call.buffer inv.1
-          d c.in-Some-read-call.behind.now c.in-Some-read-call.ensures.value m' c.call.result c.write-answer.new.answers c.call.new.buffer left replied wrote c.write-answer.ensures.after,
+          d c.in-Some-read_call.behind.now c.in-Some-read_call.ensures.value m' c.call.result c.write_answer.new.answers c.call.new.buffer left replied wrote c.write_answer.ensures.after,
     )
 
 pub returns : goal.returns
@@ -100,7 +100,7 @@ returns g c =
     let count = is-counted (calls_of calls) c.in-Some.count c.in-Some.ensures.value in
     let many = count.1 in
     let is = all_done w a b (calls_of calls) ss count.0 (omega arith) in
-    let through = gone_through _ ss a b c.loop-call.at c.loop-call.rest.now _ c.loop-call.answers c.loop-call.buffer c.loop-call.invariant.1 c.in-default-read-call.ensures.value in
+    let through = gone_through _ ss a b c.loop-call.at c.loop-call.rest.now _ c.loop-call.answers c.loop-call.buffer c.loop-call.invariant.1 c.in_default-read_call.ensures.value in
     let number = to_z_pos w64 c.in-Some.count (omega arith) ∙ ap pos (many ∙ sym (length-map ss call)) in
     record {
       performs = record {

@@ -9,5 +9,5 @@ returns c =
     let at = c.args.at in
     let size : at + 16 - at ≡ 16 = omega arith in
     let behind = ap (λ (n : ℕ). drop n (drop at s)) size ∙ drop-drop 16 at s in
-    let octets = c.copy-from-slice.ensures.after ∙ c.answer_octets.ensures.value in
+    let octets = c.copy_from_slice.ensures.after ∙ c.answer_octets.ensures.value in
     record { after = λ i. take at s ++ (octets i ++ behind i) }
