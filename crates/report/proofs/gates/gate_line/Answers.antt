@@ -6,9 +6,9 @@ use Rattle.report.proofs.gates.gate_line.Goals as goal
 
 pub returns : goal.returns
 returns c =
-    let state = c.in-ok-state.ensures.made in
-    let duration = c.from-be-bytes-duration.ensures ∙ duration-is c.args.octets.now c.requires.five in
-    let all = c.in-ok-all.ensures.made in
+    let state = c.in_ok-state.ensures.made in
+    let duration = c.from_be_bytes-duration.ensures ∙ duration-is c.args.octets.now c.requires.five in
+    let all = c.in_ok-all.ensures.made in
     record {
       made =
           IfOk-weaker c.format.result _ _

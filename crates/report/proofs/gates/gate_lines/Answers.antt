@@ -11,6 +11,6 @@ loop-k-preserved c =
     let n = c.args.count in
     let k = c.loop-k.k in
     let before = string_bytes c.loop-k.lines in
-    let line = c.deref.ensures ∙ c.in-ok-line.ensures.made in
-    let after = c.in-ok-push-str.ensures.bytes ∙ ap (λ (t : List ℕ). before ++ t) line in
-    piece_more (record_lines s n 0) before (string_bytes c.push-str.new.self) _ _ _ c.loop-k.invariant (record-lines-next s n k c.loop-k-test.true) after
+    let line = c.deref.ensures ∙ c.in_ok-line.ensures.made in
+    let after = c.in_ok-push_str.ensures.bytes ∙ ap (λ (t : List ℕ). before ++ t) line in
+    piece_more (record_lines s n 0) before (string_bytes c.push_str.new.self) _ _ _ c.loop-k.invariant (record-lines-next s n k c.loop-k-test.true) after

@@ -5,7 +5,7 @@ use Rattle.report.proofs.gates.list_text.Goals as goal
 
 pub returns : goal.returns
 returns c =
-    let lines = c.in-ok-lines.ensures.made in
+    let lines = c.in_ok-lines.ensures.made in
     record {
       made =
           IfOk-weaker c.format.result _ _

@@ -15,9 +15,9 @@ loop-port-preserved c =
     let n = c.args.ports in
     let q = c.loop-port.port in
     let before = string_bytes c.loop-port.texts in
-    let text = c.deref.ensures ∙ c.in-ok-text.ensures.made in
-    let after = c.in-ok-push-str.ensures.bytes ∙ ap (λ (t : List ℕ). before ++ t) text in
-    piece_more (port_texts w m n 0) before (string_bytes c.push-str.new.self) _ _ _ c.loop-port.invariant (port-texts-next w m n q c.loop-port-test.true) after
+    let text = c.deref.ensures ∙ c.in_ok-text.ensures.made in
+    let after = c.in_ok-push_str.ensures.bytes ∙ ap (λ (t : List ℕ). before ++ t) text in
+    piece_more (port_texts w m n 0) before (string_bytes c.push_str.new.self) _ _ _ c.loop-port.invariant (port-texts-next w m n q c.loop-port-test.true) after
 
 pub returns : goal.returns
 returns c =

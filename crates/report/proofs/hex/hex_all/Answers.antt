@@ -10,13 +10,13 @@ loop-octet-preserved c =
     let s = c.args.octets.now in
     let i = c.loop-octet.octet-index in
     let before = string_bytes c.loop-octet.text in
-    let digits = c.deref.ensures ∙ c.in-ok-digits.ensures.made in
-    let spaced = c.in-ok-push-str.ensures.bytes in
+    let digits = c.deref.ensures ∙ c.in_ok-digits.ensures.made in
+    let spaced = c.in_ok-push_str.ensures.bytes in
     let after =
-    c.in-ok-push-str-2.ensures.bytes
+    c.in_ok-push_str-2.ensures.bytes
     ∙ (λ j. spaced j ++ digits j)
     ∙ append_assoc before (codes " ") (hex (get_or s i 0)) in
-    piece_more (hex_octets s) before (string_bytes c.push-str-in-loop-octet.new.self) (codes " " ++ hex (get_or s i 0)) (hex_octets (drop i s)) _
+    piece_more (hex_octets s) before (string_bytes c.push_str-in-loop-octet.new.self) (codes " " ++ hex (get_or s i 0)) (hex_octets (drop i s)) _
     c.loop-octet.invariant (at_drop_more hex_octets s i 0 c.loop-octet-test.true) after
 
 pub returns : goal.returns

@@ -6,8 +6,8 @@ use Rattle.report.proofs.GateLists.{lists_are}
 use Rattle.report.proofs.Listings.{printed_short, printed-refused, printed_planned}
 use Rattle.report.proofs.printed.gate_lists.Goals as goal
 
-pub returns-in-default : goal.returns-in-default
-returns-in-default c = record { made = IfOk-weaker c.format.result _ _ (λ t e. e ∙ printed_short _ c.args.octets.now c.in-default.ensures.cases) c.format.ensures.ok }
+pub returns-in_default : goal.returns-in_default
+returns-in_default c = record { made = IfOk-weaker c.format.result _ _ (λ t e. e ∙ printed_short _ c.args.octets.now c.in_default.ensures.cases) c.format.ensures.ok }
 
 pub returns-in-Err : goal.returns-in-Err
 returns-in-Err c =

@@ -16,9 +16,9 @@ loop-index-preserved c =
     let told = c.args.answers.now in
     let i = c.loop-index.index in
     let before = string_bytes c.loop-index.lines in
-    let text = c.deref.ensures ∙ c.in-ok-line.ensures.line ∙ ap (λ (n : ℕ). answer_line n (get_or told i (Ok Done))) c.number-of.ensures.value in
-    let after = c.in-ok-push-str.ensures.bytes ∙ ap (λ (t : List ℕ). before ++ t) text in
-    piece_more (answer_lines flows 0 told) before (string_bytes c.push-str.new.self) _ _ _ c.loop-index.invariant (lines_next flows told (Ok Done) i c.loop-index-test.true) after
+    let text = c.deref.ensures ∙ c.in_ok-line.ensures.line ∙ ap (λ (n : ℕ). answer_line n (get_or told i (Ok Done))) c.number_of.ensures.value in
+    let after = c.in_ok-push_str.ensures.bytes ∙ ap (λ (t : List ℕ). before ++ t) text in
+    piece_more (answer_lines flows 0 told) before (string_bytes c.push_str.new.self) _ _ _ c.loop-index.invariant (lines_next flows told (Ok Done) i c.loop-index-test.true) after
 
 pub returns : goal.returns
 returns c =

@@ -16,7 +16,7 @@ returns c =
       cases =
           record {
             long = omega arith;
-            cycle = c.from-be-bytes.ensures ∙ cycle-is s (omega arith);
+            cycle = c.from_be_bytes.ensures ∙ cycle-is s (omega arith);
             codes = ap (λ (m : ℕ). take m (drop 5 s)) codes;
             ports = ap (λ (m : ℕ). take m (drop (5 + n) s)) ports;
             flows = part_to_end s (5 + 9 * n);
