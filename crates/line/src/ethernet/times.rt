@@ -1,7 +1,7 @@
 // The wire times of an Ethernet line.
 ghost use Rattle.std.specs.Prelude.{◌≡◌};
 ghost use Rattle.line.specs.Times.{ethernet_time, octet};
-ghost use Rattle.std.proofs.Common.{rules, arith};
+ghost use Rattle.std.proofs.Common.{rules};
 
 use crate::ethernet::{Ethernet, Rate};
 use crate::line::Line;
