@@ -17,11 +17,11 @@ pub trait Line {
 
     fn ports(&self) -> u8
         ensures value { result ≡ (meaning self.now).ports }
-        ensures same { self.now ≡ self.now };
+        ensures same { self.exit.now ≡ self.entry.now };
 
     fn wire_time(&self, port: u8, length: u16) -> u32
         ensures value { result ≡ (meaning self.now).time port length }
-        ensures same { self.now ≡ self.now };
+        ensures same { self.exit.now ≡ self.entry.now };
 
     ghost least: { 64 ≤ most };
 
