@@ -1,4 +1,6 @@
 // Edges of the three record kinds and of sheets. The octets were worked out apart from the crate that is tested.
+#![tactic(auto)]
+
 #[cfg(test)]
 mod flows;
 #[cfg(test)]
