@@ -1,5 +1,5 @@
 // A line of Ethernet ports, each at its own rate.
-ghost use Rattle.std.specs.Prelude.{◌≡◌, ◌≤◌, length};
+ghost use Rattle.std.specs.Prelude.{◌≤◌};
 
 mod fill;
 pub mod times;

@@ -1,6 +1,6 @@
 -- Which words ask for which command.
 -- Assumes nothing.
-use Rattle.std.specs.Prelude.{◌≡◌, ℕ, ◌+◌, ◌^◌, ◌<◌, min, List, [], ◌∷◌, length, get_or, Some, None, vec_items, codes, Option, slice_index, slice_index_or}
+use Rattle.std.specs.Prelude.{◌≡◌, ℕ, ◌+◌, ◌^◌, ◌<◌, min, List, [], ◌∷◌, length, Some, None, vec_items, codes, Option, slice_index, slice_index_or}
 use Rattle.std.specs.Borrow.{Bor}
 use Rattle.std.specs.Str.Parse.{IsNumeral, digits_value, without_leading_plus}
 use Rattle.wires.specs.Answers.{name}
@@ -21,13 +21,13 @@ pub record Number (most : ℕ) (word : List ℕ) (n : ℕ) : Type 0 where
 
 -- "ethernet", and then a rate code in each word
 pub record EthernetWords (ws : List (List ℕ)) (cs : List ℕ) : Type 0 where
-  pub first : get_or ws 0 [] ≡ codes "ethernet"
+  pub first : slice_index_or ws 0 [] ≡ codes "ethernet"
   pub many : length cs + 1 ≡ length ws
   pub each : (k : ℕ) → k < length cs → Number 255 (slice_index_or ws (k + 1) []) (slice_index cs k)
 
 -- "cell", the number of ports, the octets of a cell and its nanoseconds
 pub record CellWords (ws : List (List ℕ)) (N z w : ℕ) : Type 0 where
-  pub first : get_or ws 0 [] ≡ codes "cell"
+  pub first : slice_index_or ws 0 [] ≡ codes "cell"
   pub many : length ws ≡ 4
   pub ports : Number 255 (slice_index_or ws 1 []) N
   pub size : Number 65535 (slice_index_or ws 2 []) z
@@ -35,9 +35,9 @@ pub record CellWords (ws : List (List ℕ)) (N z w : ℕ) : Type 0 where
 
 -- "time", the kind of line, a port and a length
 pub record TimeWords (ws : List (List ℕ)) (k : Kind) (q l : ℕ) : Type 0 where
-  pub first : get_or ws 0 [] ≡ codes "time"
+  pub first : slice_index_or ws 0 [] ≡ codes "time"
   pub many : length ws ≡ 4
-  pub kind : get_or ws 1 [] ≡ name k
+  pub kind : slice_index_or ws 1 [] ≡ name k
   pub port : Number 255 (slice_index_or ws 2 []) q
   pub long : Number 65535 (slice_index_or ws 3 []) l
 

@@ -1,4 +1,6 @@
 // Reads commands, performs them on an Ethernet line and a cell line, and prints what came of each.
+#![tactic(auto)]
+
 mod answer;
 mod command;
 mod lines;

@@ -16,19 +16,19 @@ impl Line for Cell {
 
     ghost meaning = { λ x. record { ports = x.ports; time = cell_time x.ports x.size x.time } };
 
-    ghost least = { first_of (Prim.search rules, Prim.grind (arith, Self.row.coded.inj)) };
+    ghost least = { Prim.search rules };
 
-    ghost greatest = { first_of (Prim.search rules, Prim.grind (arith, Self.row.coded.inj)) };
+    ghost greatest = { Prim.search rules };
 
-    ghost some = { first_of (Prim.search rules, Prim.grind (arith, Self.row.coded.inj)) };
+    ghost some = { Prim.search rules };
 
-    ghost few = { first_of (Prim.search rules, Prim.grind (arith, Self.row.coded.inj)) };
+    ghost few = { Prim.search rules };
 
-    ghost absent = { first_of (Prim.search rules, Prim.grind (arith, Self.row.coded.inj)) };
+    ghost absent = { Prim.search rules };
 
-    ghost short = { first_of (Prim.search rules, Prim.grind (arith, Self.row.coded.inj)) };
+    ghost short = { Prim.search rules };
 
-    ghost long = { first_of (Prim.search rules, Prim.grind (arith, Self.row.coded.inj)) };
+    ghost long = { Prim.search rules };
 
     ghost timed = { λ x q l port least most.
         let some = mul-le-mul_right x.time (cells_some l x.size (omega arith) (omega arith)) in

@@ -1,7 +1,7 @@
 // The wire times of an Ethernet line.
 ghost use Rattle.std.specs.Prelude.{◌≡◌};
 ghost use Rattle.line.specs.Times.{ethernet_time, octet};
-ghost use Rattle.std.proofs.Common.{rules, arith};
+ghost use Rattle.std.proofs.Common.{rules};
 
 use crate::ethernet::{Ethernet, Rate};
 use crate::line::Line;
@@ -26,25 +26,25 @@ impl Line for Ethernet {
 
     ghost meaning = { λ x. record { ports = x.ports; time = ethernet_time x.ports x.rates } };
 
-    ghost least = { first_of (Prim.search rules, Prim.grind (arith, Self.row.coded.inj)) };
+    ghost least = { Prim.search rules };
 
-    ghost greatest = { first_of (Prim.search rules, Prim.grind (arith, Self.row.coded.inj)) };
+    ghost greatest = { Prim.search rules };
 
-    ghost some = { first_of (Prim.search rules, Prim.grind (arith, Self.row.coded.inj)) };
+    ghost some = { Prim.search rules };
 
-    ghost few = { first_of (Prim.search rules, Prim.grind (arith, Self.row.coded.inj)) };
+    ghost few = { Prim.search rules };
 
-    ghost absent = { first_of (Prim.search rules, Prim.grind (arith, Self.row.coded.inj)) };
+    ghost absent = { Prim.search rules };
 
-    ghost short = { first_of (Prim.search rules, Prim.grind (arith, Self.row.coded.inj)) };
+    ghost short = { Prim.search rules };
 
-    ghost long = { first_of (Prim.search rules, Prim.grind (arith, Self.row.coded.inj)) };
+    ghost long = { Prim.search rules };
 
-    ghost timed = { first_of (Prim.search rules, Prim.grind (arith, Self.row.coded.inj)) };
+    ghost timed = { Prim.search rules };
 
-    ghost bounded = { first_of (Prim.search rules, Prim.grind (arith, Self.row.coded.inj)) };
+    ghost bounded = { Prim.search rules };
 
-    ghost longer = { first_of (Prim.search rules, Prim.grind (arith, Self.row.coded.inj)) };
+    ghost longer = { Prim.search rules };
 
     fn longest() -> u16 {
         Self::LARGEST

@@ -9,23 +9,23 @@ returns-then-words-ne4 c =
     let many = length-texts c.args.words.now in
     record { understood = no_cell (texts c.args.words.now) c.requires.first (λ N z w h. let four = h.many in omega arith) }
 
-pub returns-in-err-ports : goal.returns-in-err-ports
-returns-in-err-ports c =
+pub returns-in_err-ports : goal.returns-in_err-ports
+returns-in_err-ports c =
     let word = get_or-texts c.args.words.now 1 _ (omega arith) in
-    simp c.from-residual.ensures
-    (record { understood = no_cell (texts c.args.words.now) c.requires.first (λ N z w h. c.in-err-ports.ensures.cases N (rw word at h.ports)) })
+    simp c.from_residual.ensures
+    (record { understood = no_cell (texts c.args.words.now) c.requires.first (λ N z w h. c.in_err-ports.ensures.cases N (rw word at h.ports)) })
 
-pub returns-in-err-size : goal.returns-in-err-size
-returns-in-err-size c =
+pub returns-in_err-size : goal.returns-in_err-size
+returns-in_err-size c =
     let word = get_or-texts c.args.words.now 2 _ (omega arith) in
-    simp c.from-residual-in-err-size.ensures
-    (record { understood = no_cell (texts c.args.words.now) c.requires.first (λ N z w h. c.in-err-size.ensures.cases z (rw word at h.size)) })
+    simp c.from_residual-in_err-size.ensures
+    (record { understood = no_cell (texts c.args.words.now) c.requires.first (λ N z w h. c.in_err-size.ensures.cases z (rw word at h.size)) })
 
-pub returns-in-err-time : goal.returns-in-err-time
-returns-in-err-time c =
+pub returns-in_err-time : goal.returns-in_err-time
+returns-in_err-time c =
     let word = get_or-texts c.args.words.now 3 _ (omega arith) in
-    simp c.from-residual-in-err-time.ensures
-    (record { understood = no_cell (texts c.args.words.now) c.requires.first (λ N z w h. c.in-err-time.ensures.cases w (rw word at h.time)) })
+    simp c.from_residual-in_err-time.ensures
+    (record { understood = no_cell (texts c.args.words.now) c.requires.first (λ N z w h. c.in_err-time.ensures.cases w (rw word at h.time)) })
 
 pub returns : goal.returns
 returns c = search (rules, length-texts, get_or-texts)

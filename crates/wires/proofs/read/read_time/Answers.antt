@@ -9,23 +9,23 @@ returns-then-words-ne4 c =
     let many = length-texts c.args.words.now in
     record { understood = no-time (texts c.args.words.now) c.requires.first (λ k q l h. let four = h.many in omega arith) }
 
-pub returns-in-err-kind : goal.returns-in-err-kind
-returns-in-err-kind c =
+pub returns-in_err-kind : goal.returns-in_err-kind
+returns-in_err-kind c =
     let word = get_or-texts c.args.words.now 1 _ (omega arith) in
-    simp c.from-residual.ensures
-    (record { understood = no-time (texts c.args.words.now) c.requires.first (λ k q l h. c.in-err-kind.ensures.cases k (rw word at h.kind)) })
+    simp c.from_residual.ensures
+    (record { understood = no-time (texts c.args.words.now) c.requires.first (λ k q l h. c.in_err-kind.ensures.cases k (rw word at h.kind)) })
 
-pub returns-in-err-port : goal.returns-in-err-port
-returns-in-err-port c =
+pub returns-in_err-port : goal.returns-in_err-port
+returns-in_err-port c =
     let word = get_or-texts c.args.words.now 2 _ (omega arith) in
-    simp c.from-residual-in-err-port.ensures
-    (record { understood = no-time (texts c.args.words.now) c.requires.first (λ k q l h. c.in-err-port.ensures.cases q (rw word at h.port)) })
+    simp c.from_residual-in_err-port.ensures
+    (record { understood = no-time (texts c.args.words.now) c.requires.first (λ k q l h. c.in_err-port.ensures.cases q (rw word at h.port)) })
 
-pub returns-in-err-length : goal.returns-in-err-length
-returns-in-err-length c =
+pub returns-in_err-length : goal.returns-in_err-length
+returns-in_err-length c =
     let word = get_or-texts c.args.words.now 3 _ (omega arith) in
-    simp c.from-residual-in-err-length.ensures
-    (record { understood = no-time (texts c.args.words.now) c.requires.first (λ k q l h. c.in-err-length.ensures.cases l (rw word at h.long)) })
+    simp c.from_residual-in_err-length.ensures
+    (record { understood = no-time (texts c.args.words.now) c.requires.first (λ k q l h. c.in_err-length.ensures.cases l (rw word at h.long)) })
 
 pub returns : goal.returns
 returns c = search (rules, length-texts, get_or-texts)

@@ -4,11 +4,11 @@ use Rattle.wires.proofs.transcript.note.Goals as goal
 
 pub returns : goal.returns
 returns c =
-    let sentence = c.as-str.ensures.value ∙ c.in-ok-told.ensures.ok in
+    let sentence = c.as_str.ensures.value ∙ c.in_ok-told.ensures.ok in
     record {
       noted = record {
-        answer = c.in-ok-answer.answer;
-        answered = c.in-ok-answer.ensures.answered;
-        written = c.in-ok-push-str.ensures.bytes ∙ ap (λ (t : List ℕ). string_bytes c.args.text.now ++ t) sentence;
+        answer = c.in_ok-answer.answer;
+        answered = c.in_ok-answer.ensures.answered;
+        written = c.in_ok-push_str.ensures.bytes ∙ ap (λ (t : List ℕ). string_bytes c.args.text.now ++ t) sentence;
       };
     }

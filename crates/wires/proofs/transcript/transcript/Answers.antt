@@ -7,7 +7,7 @@ use Rattle.wires.proofs.transcript.transcript.Goals as goal
 
 pub loop-line-init : goal.loop-line-init
 loop-line-init c =
-    let whole = ap lines_rest c.into-iter-line-iterator.ensures.into-iter-gives ∙ c.lines-line-items.ensures.rest in (
+    let whole = ap lines_rest c.into_iter-line-iterator.ensures.into_iter_gives ∙ c.lines-line-items.ensures.rest in (
       λ ls more cut recorded.
           rw c.new-text.ensures.bytes
           (record {
@@ -26,7 +26,7 @@ loop-line-preserved c =
     let steps = c.in-Some.ensures.steps in
     let rest = lines_rest c.loop-line.line-iterator in
     let rest' = lines_rest c.next.new.self in (
-      follows_more c.args.input.now rest rest' c.in-Some.line.now (string_bytes c.loop-line.text) (string_bytes c.note.new.text) (c.loop-line.number + 1) c.loop-line.lines c.note.new.lines c.loop-line.invariant.0 steps.0.0 steps.0.2 c.in-ok-note.ensures.noted,
+      follows_more c.args.input.now rest rest' c.in-Some.line.now (string_bytes c.loop-line.text) (string_bytes c.note.new.text) (c.loop-line.number + 1) c.loop-line.lines c.note.new.lines c.loop-line.invariant.0 steps.0.0 steps.0.2 c.in_ok-note.ensures.noted,
       search rules,
     )
 
