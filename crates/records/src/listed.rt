@@ -41,7 +41,7 @@ impl Listed for GateRecord {
 
 // The lines of a sheet.
 fn list_records<K: Listed>(heap: Global, sheet: &[u8]) -> Result<String, AllocError>
-    ensures made { IfOk result (λ t. string_bytes t ≡ listingBy K.RecordKind.long K.RecordKind.reading text sheet.now) }
+    ensures made { IfOk result (λ t. string_bytes t ≡ listingBy K.RecordKind.long K.RecordKind.reading K.text sheet.now) }
 {
     let mut lines = String::new(heap);
     let count = sheet.len() / K::octet_count();

@@ -1,4 +1,6 @@
 // Prints the records of a sheet. The first argument is the kind of its records: port, flow or gate. The sheet is the standard input.
+#![tactic(auto)]
+
 mod line;
 mod listed;
 

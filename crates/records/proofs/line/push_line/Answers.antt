@@ -8,8 +8,8 @@ returns c =
     record {
       done =
           λ ok.
-          let first = pushed c.args.line.now refl c.in-ok-push-str.was c.push-str.ensures.bytes in
-          let second = c.push-str-2.ensures.bytes ∙ cond-true (is_ok c.push-str-2.result) _ _ ok in
+          let first = pushed c.args.line.now refl c.in_ok-push_str.was c.push_str.ensures.bytes in
+          let second = c.push_str-2.ensures.bytes ∙ cond-true (is_ok c.push_str-2.result) _ _ ok in
           second
           ∙ ap (λ (t : List ℕ). t ++ (10 ∷ [])) first
           ∙ append_assoc (string_bytes c.args.text.now) c.args.line.now (10 ∷ []);

@@ -10,12 +10,12 @@ returns-in-Err g c =
     let reading = g.K.RecordKind.reading in
     let sheet : List ℕ = c.args.sheet.now in
     let is = c.in-Err.ensures.value ∙ (λ i. read_at z reading (c.new.ensures.index i) (c.new.ensures.sheet i)) in
-    let text = c.deref-in-Err.ensures ∙ c.in-ok-line-2.ensures.made in
-    let after = c.in-ok-push-line-2.ensures.done refl ∙ ap (λ (t : List ℕ). string_bytes c.loop-index.lines ++ line t) text in
+    let text = c.deref-in-Err.ensures ∙ c.in_ok-line-in-Err.ensures.made in
+    let after = c.in_ok-push_line-in-Err.ensures.done refl ∙ ap (λ (t : List ℕ). string_bytes c.loop-index.lines ++ line t) text in
     record {
       made =
-          lines-refused g.K.Listed.text (λ k. read_at z reading k sheet) (leftover (record_count z sheet)) (length sheet / c.octet-count.result) c.loop-index.index
-          (string_bytes c.loop-index.lines) (string_bytes c.push-line-in-Err.new.text) (listing z reading g.K.Listed.text sheet)
+          lines-refused g.K.Listed.text (λ k. read_at z reading k sheet) (leftover (record_count z sheet)) (length sheet / c.octet_count.result) c.loop-index.index
+          (string_bytes c.loop-index.lines) (string_bytes c.push_line-in-Err.new.text) (listing z reading g.K.Listed.text sheet)
           c.loop-index-test.true is c.loop-index.invariant after;
     }
 
@@ -25,8 +25,8 @@ loop-index-preserved g c =
     let reading = g.K.RecordKind.reading in
     let sheet : List ℕ = c.args.sheet.now in
     let is = c.in-Ok.ensures.value ∙ (λ i. read_at z reading (c.new.ensures.index i) (c.new.ensures.sheet i)) in
-    let text = c.deref.ensures ∙ c.in-ok-line.ensures.made in
-    let after = c.in-ok-push-line.ensures.done refl ∙ ap (λ (t : List ℕ). string_bytes c.loop-index.lines ++ line t) text in
-    lines_more g.K.Listed.text (λ k. read_at z reading k sheet) (leftover (record_count z sheet)) (length sheet / c.octet-count.result) c.loop-index.index
-    (string_bytes c.loop-index.lines) (string_bytes c.push-line.new.text) (listing z reading g.K.Listed.text sheet)
+    let text = c.deref.ensures ∙ c.in_ok-line-in-Ok.ensures.made in
+    let after = c.in_ok-push_line-in-Ok.ensures.done refl ∙ ap (λ (t : List ℕ). string_bytes c.loop-index.lines ++ line t) text in
+    lines_more g.K.Listed.text (λ k. read_at z reading k sheet) (leftover (record_count z sheet)) (length sheet / c.octet_count.result) c.loop-index.index
+    (string_bytes c.loop-index.lines) (string_bytes c.push_line.new.text) (listing z reading g.K.Listed.text sheet)
     c.loop-index-test.true is c.loop-index.invariant after
