@@ -6,7 +6,7 @@ use Prim.Native.Nat.{ℕ, ◌<◌}
 use native.Mathlib.Decide.{ℕ_discrete, map_dec}
 use native.Mathlib.Omega.{arith}
 use Rattle.spans.specs.Spans.{Covers, Guards}
-use Rattle.network.specs.Flows.{Hop, Flow, Network, Well, Formed, guard}
+use Rattle.network.specs.Flows.{Hop, Flow, Network, Well, Formed}
 use Rattle.network.specs.Overlap.{first}
 use Rattle.network.specs.Gates.{Covered, Guarded, State, scheduled, closed, unscheduled, Gate, GateList}
 use Rattle.network.specs.Theorems.{OneGateList}
@@ -57,9 +57,9 @@ module _ (net : Network) (flows : List Flow) (some : 0 < net.cycle) (formed : Fo
       let (port, guards) = hop.holds in
       record { j = found.n; k = hop.n; f = found.x; h = hop.x; flow = found.at; hop = hop.at; port = port; guards = guards })
       (λ g. record { n = g.j; x = g.f; at = g.flow; holds = record { n = g.k; x = g.h; at = g.hop; holds = (g.port, g.guards) } })
-      (decided_some_hop (λ f h. (h.port ≡ q) × Guards net.cycle (first f h) f.period (guard net q) y)
+      (decided_some_hop (λ f h. (h.port ≡ q) × Guards net.cycle (first f h) f.period _ y)
       (λ f h well.
-      let guards = decided_guards net.cycle well.periods (first f h) f.period (guard net q) y well.divides some in
+      let guards = decided_guards net.cycle well.periods (first f h) f.period _ y well.divides some in
       Dec.and (ℕ_discrete h.port q) guards))
 
   -- a place has a state

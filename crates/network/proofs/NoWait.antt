@@ -68,7 +68,7 @@ module _ {net : Network} {flows : List Flow} {gate : ℕ → ℕ → ℕ} {sent 
 
       -- so the wire is idle
       wire-idle : Idle net sent h.port (planned f h a)
-      wire-idle u lt = go (sent h.port u) refl
+      wire-idle u lt = let ended = go (sent h.port u) refl in omega arith
         where
           go : (x : Sending) → sent h.port u ≡ x → u + lasts net h.port x ≤ planned f h a
           go nothing begun = omega arith

@@ -1,10 +1,10 @@
 -- What may begin at an instant depends only on what began before it.
-use mathlib.Core.Path.{◌≡◌, ◌∙◌, sym, subst}
+use mathlib.Core.Path.{◌≡◌, ◌∙◌, sym, ap}
 use mathlib.Core.List.{List}
-use Prim.Native.Nat.{ℕ, ◌+◌, ◌≤◌, ◌<◌}
+use Prim.Native.Nat.{ℕ, ◌≤◌, ◌<◌}
 use native.Mathlib.Omega.{arith}
 use Rattle.network.specs.Flows.{Hop, Flow, Network, Well, Formed}
-use Rattle.network.specs.Run.{Sending, Sent, lasts, Idle, Ready, initially, onward, Queued, May}
+use Rattle.network.specs.Run.{Sent, lasts, Idle, Ready, initially, onward, Queued, May}
 
 -- the same began before t on each port
 abbrev pub SameBefore : ℕ → Sent → Sent → Type 0
@@ -36,7 +36,7 @@ module _ {net : Network} {flows : List Flow} (formed : Formed net flows) (t : �
       }
 
   idle_past : {sent past : Sent} → SameBefore t sent past → (q : ℕ) → Idle net sent q t → Idle net past q t
-  idle_past same q idle u lt = subst (λ (x : Sending). u + lasts net q x ≤ t) (same q u lt) (idle u lt)
+  idle_past same q idle u lt = let held = ap (lasts net q) (same q u lt) in let ended = idle u lt in omega arith
 
   pub may_past : {sent past : Sent} {gate : ℕ → ℕ → ℕ} → SameBefore t sent past → {f : Flow} {h : Hop} {a : ℕ} →
       May net flows gate sent f h a t → May net flows gate past f h a t

@@ -6,7 +6,7 @@ use mathlib.Core.Logic.{◌⊎◌, inl, inr}
 use Prim.Native.Nat.{ℕ, ◌+◌, ◌%◌, ◌≤◌, ◌<◌}
 use native.Mathlib.Decide.{dec_le, dec_lt, ℕ_discrete, map_dec}
 use Rattle.network.specs.Flows.{At, Hop, Flow, Network, Formed}
-use Rattle.network.specs.Run.{frame, Sent, lasts, Idle, Ready, Queued, Head, May}
+use Rattle.network.specs.Run.{frame, Sent, Idle, Ready, Queued, Head, May}
 use Rattle.network.proofs.Lists.{Found, decided_found}
 use Rattle.network.proofs.Search.{decided_all_below}
 use Rattle.network.proofs.Sendings.{decided_frame}
@@ -42,7 +42,7 @@ decided_opened net gate h t =
 
 -- it is decided whether the wire of a port is idle
 decided_idle : (net : Network) (sent : Sent) (q t : ℕ) → Dec (Idle net sent q t)
-decided_idle net sent q t = decided_all_below t (λ u. u + lasts net q (sent q u) ≤ t) (λ u. dec_le (u + lasts net q (sent q u)) t)
+decided_idle net sent q t = decided_all_below t _ (λ u. dec_le _ _)
 
 -- some frame of flow f is queued at hop h at t, and has P
 abbrev QueuedAt : Network → List Flow → Sent → ℕ → (Flow → Hop → ℕ → ℕ → Type 0) → Flow → Hop → Type 0

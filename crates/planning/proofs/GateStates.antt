@@ -1,6 +1,6 @@
 -- The tests that compute decide which places are covered and guarded, so the computed state is the one state of a place.
 -- Assumes nothing.
-use Rattle.std.proofs.Common.{◌≡◌, ℕ, ◌<◌, ◌≤◌, Bool, true, false, cond, T, ltb, leb, List, refl, arith, le→leb, ltb→lt, lt→ltb, leb→le}
+use Rattle.std.proofs.Common.{◌≡◌, ℕ, ◌<◌, ◌≤◌, Bool, true, false, cond, T, ltb, leb, List, refl, arith, ltb→lt, lt→ltb, leb→le}
 use native.Mathlib.Decide.{dec_le, dec_lt}
 use Rattle.spans.specs.Divisors.{Divides}
 use Rattle.spans.specs.Places.{ahead, DecidesCover, DecidesGuard}
@@ -39,13 +39,13 @@ module _ (flows : List Flow) (q y : ℕ) where
 
 module _ (G : ℕ) (flows : List Flow) (q y : ℕ) where
   -- a place is guarded exactly when it lies at most G before a first instant of some hop on the port
+  pub until-guarded : SomeOn flows q (λ f h. until f h y ≤ G) → T (guarded_by G flows q y)
+  until-guarded some =
+      on-port-all _ q flows (some-on-map (λ j k f h flow hop port near. grind arith) some)
+
   pub guarded_until : T (guarded_by G flows q y) → SomeOn flows q (λ f h. until f h y ≤ G)
   guarded_until pass =
       some-on-map (λ j k f h flow hop port. leb→le (until f h y) G) (on-port-only (λ f h. leb (until f h y) G) q flows pass)
-
-  pub until-guarded : SomeOn flows q (λ f h. until f h y ≤ G) → T (guarded_by G flows q y)
-  until-guarded some =
-      on-port-all (λ f h. leb (until f h y) G) q flows (some-on-map (λ j k f h flow hop port. le→leb (until f h y) G) some)
 
   pub unguarded_until : ¬ T (guarded_by G flows q y) → EachOn flows q (λ f h. G < until f h y)
   unguarded_until free j k f h flow hop port = elim (dec_lt G (until f h y)) [
