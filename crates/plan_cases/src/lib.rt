@@ -1,4 +1,6 @@
 // Tests of the plan on worked cases.
+#![tactic(auto)]
+
 #[cfg(test)]
 mod case;
 #[cfg(test)]

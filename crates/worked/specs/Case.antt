@@ -1,6 +1,6 @@
 -- The records of the worked case.
 -- Assumes nothing.
-use Rattle.std.specs.Prelude.{ℕ, List, [], ◌∷◌}
+use Rattle.std.specs.Prelude.{List, [], ◌∷◌}
 use Rattle.sheet.specs.declared.flow.FlowRecord.{FlowRecord}
 use Rattle.sheet.specs.declared.flow.Start.TheVariants.{Chosen, Free}
 use Rattle.sheet.specs.declared.port.PortRecord.{PortRecord}

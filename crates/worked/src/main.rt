@@ -1,4 +1,6 @@
 // Performs a list of calls on a plan and prints a record of what it did: two ports at 1,000 Mb/s and four flows.
+#![tactic(auto)]
+
 mod script;
 mod text;
 

@@ -13,7 +13,7 @@ impl<L: Line> Plan<L> {
     // The start of the flow of a number.
     pub fn start_of(&self, number: u16) -> Result<u32, PlanFault>
         ensures value { result ≡ start_answer (model self.now.setup self.now.rows) number }
-        ensures same { self.now ≡ self.now }
+        ensures same { self.exit.now ≡ self.entry.now }
     {
         let Some(_) = self.setup else {
             return Err(PlanFault::NotSetUp);
@@ -27,7 +27,7 @@ impl<L: Line> Plan<L> {
     // The greatest start + total time among the held flows, or 0.
     pub fn flowspan(&self) -> Result<u32, PlanFault>
         ensures value { result ≡ flowspan_answer (wires L.most (L.meaning self.now.line)) (model self.now.setup self.now.rows) }
-        ensures same { self.now ≡ self.now }
+        ensures same { self.exit.now ≡ self.entry.now }
     {
         let Some(setup) = self.setup else {
             return Err(PlanFault::NotSetUp);

@@ -12,7 +12,7 @@ impl<L: Line> Plan<L> {
     // Writes the gate list of a port as records from the front of the buffer, and answers how many there are.
     pub fn gate_list(&self, port: u8, buffer: &mut [u8]) -> Result<usize, PlanFault>
         ensures value { result ≡ gates_answer (wires L.most (L.meaning self.now.line)) (model self.now.setup self.now.rows) port (length buffer.old) }
-        ensures same { self.now ≡ self.now }
+        ensures same { self.exit.now ≡ self.entry.now }
         ensures after { buffer.new ≡ list_written (wires L.most (L.meaning self.now.line)) (model self.now.setup self.now.rows) buffer.old port }
     {
         let Some(setup) = self.setup else {

@@ -14,11 +14,12 @@ returns-then-octet c =
     let more = c.state_at-more in
     let inv = c.loop-found.invariant in
     let at = subst (λ (x : ℕ). states x ≡ octet_of more.result.state) (add-zero (y + found.duration)) (more.ensures.lasts 0 more.ensures.some) in
+    let differ : ¬ (c.octet.result ≡ c.octet-in-loop-found.result) = c.if-octet.true in
     record {
       some = inv.0;
       within = inv.1;
       first = stretch-first states c.args.cycle y found.duration (octet_of found.state) inv.0 inv.1 inv.2
-          (λ _ same. c.if-octet.true (c.octet.ensures.value ∙ sym at ∙ same ∙ sym c.octet-in-loop-found.ensures.value));
+          (λ _ same. differ (c.octet.ensures.value ∙ sym at ∙ same ∙ sym c.octet-in-loop-found.ensures.value));
     }
 
 pub loop-found-preserved : goal.loop-found-preserved
