@@ -6,7 +6,7 @@ use Rattle.network.specs.Flows.{here, Flow, Network, Formed}
 use Rattle.network.specs.Gates.{State, Gate, Shows, GateList}
 use Rattle.network.proofs.Lists.{At-empty, At-unique}
 use Rattle.network.proofs.Shows.{shows-part, shows-some}
-use Rattle.network.proofs.Listed.{Listed, listed_new, listed-longer}
+use Rattle.network.proofs.Listed.{Listed, listed_new, listed-longer, listed_unique}
 use Rattle.network.proofs.GateLists.{gate_list_unique}
 use Rattle.planning.specs.Gates.{state, joined, recorded, gates}
 use Rattle.planning.proofs.GateStates.{state-is}
@@ -39,6 +39,12 @@ recorded-listed (suc n) y states S given =
     joined-listed (states y) (recorded states (suc y) n)
     (subst (λ (x : ℕ). S 0 (states x)) (add-zero y) (given 0 (omega arith)))
     (recorded-listed n (suc y) states (λ z. S (suc z)) on)
+
+-- .. the only one
+pub recorded-alone : (n y : ℕ) (states : ℕ → ℕ) (es : List Gate) → Listed (λ z s. s ≡ states (y + z)) n es → es ≡ recorded states y n
+recorded-alone n y states es l =
+    listed_unique es (recorded states y n) (λ z s. s ≡ states (y + z)) n (λ z s r one other. one ∙ sym other) l
+    (recorded-listed n y states (λ z s. s ≡ states (y + z)) (λ z lt. refl))
 
 -- .. and shows the state of each place
 pub recorded_shows : (n y : ℕ) (states : ℕ → ℕ) (z : ℕ) → z < n → Shows (recorded states y n) z (states (y + z))

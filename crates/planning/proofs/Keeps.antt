@@ -8,12 +8,12 @@ use Rattle.network.specs.Flows.{Flow, Network, Well, Formed}
 use Rattle.network.specs.Overlap.{starting, Overlap, Fits}
 use Rattle.network.proofs.Lists.{At-empty}
 use Rattle.network.proofs.OverlapDecided.{overlap-sym}
-use Rattle.planning.specs.Lists.{without}
+use Rattle.planning.specs.Lists.{without, Same}
 use Rattle.planning.specs.Overlaps.{fits, earliest}
 use Rattle.planning.specs.Offers.{flow, refusal, placed}
 use Rattle.planning.specs.Promise.{Keeps, OffersKeep, IsFew, OffersStayFew}
 use Rattle.planning.specs.Setups.{network}
-use Rattle.planning.proofs.Once.{Each, each_more, each-without, once_more, once-without}
+use Rattle.planning.proofs.Once.{Each, each_more, each-without, each_same, once_more, once-without, once-same}
 use Rattle.planning.proofs.Overlaps.{Repeat, decides-fits, earliest_starts}
 use Rattle.planning.proofs.Offers.{refusal-none, passed_well}
 use Rattle.planning.proofs.Setups.{rules_timed}
@@ -74,6 +74,16 @@ pub few-without : {net : Network} (p : Flow → Bool) (flows : List Flow) → Is
 few-without {net} p flows is = record {
   room = let less = length_without p flows in let room = is.room in omega arith;
   few = each-without (λ g. net.cycle / g.period ≤ 16) p flows is.few;
+}
+
+-- the same flows in another order
+pub keeps_same : {net : Network} {flows flows' : List Flow} → Same flows flows' → Keeps net flows → Keeps net flows'
+keeps_same {net} same keeps = record {
+  formed = record {
+    each = each_same (λ g. Well net g) same keeps.formed.each;
+    numbers = once-same Namesake (λ f g. sym) same keeps.formed.numbers;
+  };
+  apart = once-same Overlap (λ f g. overlap-sym) same keeps.apart;
 }
 
 -- a done offer falls under no refusal

@@ -3,7 +3,7 @@
 use Rattle.std.proofs.Common.{◌≡◌, ℕ, ◌+◌, ◌-◌, ◌<◌, ◌≤◌, T, List, arith}
 use native.Mathlib.Decide.{dec_lt}
 use Rattle.spans.proofs.Circle.{ahead-zero, until-later, since-later, since-before}
-use Rattle.network.specs.Flows.{Hop, Flow}
+use Rattle.network.specs.Flows.{Hop, Flow, Network, Formed}
 use Rattle.network.specs.Overlap.{first}
 use Rattle.planning.specs.Gates.{covered, guarded_by, state_by, Lasts}
 use Rattle.planning.proofs.OnPort.{SomeOn, EachOn, at_some, some-on-map}
@@ -13,6 +13,12 @@ use Rattle.planning.proofs.GateStates.{since, until, covered-since, since-covere
 pub record Repeats (f : Flow) (h : Hop) : Type 0 where
   pub some : 0 < h.wire
   pub within : h.wire ≤ f.period
+
+-- those of well-formed flows do
+pub formed_repeats : {net : Network} {flows : List Flow} → Formed net flows → (q : ℕ) → EachOn flows q Repeats
+formed_repeats formed q j k f h flow hop port =
+    let carried = (formed.each j f flow).carried k h hop in
+    record { some = carried.some; within = carried.within }
 
 -- no span on port q covers place y
 abbrev pub Bare : List Flow → ℕ → ℕ → Type 0

@@ -87,6 +87,10 @@ ahead-zero g x y pos e =
 pub since-first : (T x a : ℕ) → 0 < T → ahead T (x + a * T) x ≡ 0
 since-first T x a pos = ahead_unique T (x + a * T) x 0 (record { i = 0; j = a; meet = omega arith }) pos
 
+-- a first instant is the next one
+pub until-first : (T x a : ℕ) → 0 < T → ahead T x (x + a * T) ≡ 0
+until-first T x a pos = ahead-zero T (x + a * T) x pos (since-first T x a pos)
+
 -- up to the next first instant a later place lies as much nearer to it
 pub until-later : (T x y j : ℕ) → 0 < T → j ≤ ahead T x y → ahead T x (y + j) ≡ ahead T x y - j
 until-later T x y j pos le =
@@ -108,3 +112,7 @@ since-before T x y j pos before = let e = ahead_both T x y pos (omega arith) in 
 -- the next first instant is one
 pub until-next : (T x y : ℕ) → 0 < T → ahead T x (y + ahead T x y) ≡ 0
 until-next T x y pos = let e = until-later T x y (ahead T x y) pos (omega arith) in omega arith
+
+-- and the latest one there
+pub since-next : (T x y : ℕ) → 0 < T → ahead T (y + ahead T x y) x ≡ 0
+since-next T x y pos = ahead-zero T x (y + ahead T x y) pos (until-next T x y pos)
