@@ -6,7 +6,7 @@ use Rattle.fault.specs.declared.kinds.PlanFault.TheVariants.{Record, SetUpTwice,
 use Rattle.fault.specs.declared.kinds.RecordFault.TheVariants.{Sheet, NotZero, OutOfLimits}
 use Rattle.fault.specs.declared.kinds.SheetFault.TheVariants.{Unfinished}
 use Rattle.fault.specs.declared.refusal.Layer.{Layer}
-use Rattle.fault.specs.declared.refusal.Layer.TheVariants.{Sheet as sheet, Record as of-record, Plan as plan}
+use Rattle.fault.specs.declared.refusal.Layer.TheVariants.{Sheet as sheet, Record as of_record, Plan as plan}
 use Rattle.fault.specs.declared.refusal.Refusal.{Refusal}
 
 -- number, layer, and the place: the record's index and bit, and the hop
@@ -16,8 +16,8 @@ tells n l k b h = record { number = n; layer = l; place = record { index = k; bi
 -- what each fault tells
 abbrev pub refused : PlanFault → Refusal
 refused (Record (Sheet (Unfinished k))) = tells 1 sheet k 0 0
-refused (Record (NotZero k b)) = tells 2 of-record k b 0
-refused (Record (OutOfLimits k b)) = tells 3 of-record k b 0
+refused (Record (NotZero k b)) = tells 2 of_record k b 0
+refused (Record (OutOfLimits k b)) = tells 3 of_record k b 0
 refused SetUpTwice = tells 4 plan 0 0 0
 refused NotSetUp = tells 4 plan 0 0 0
 refused Filling = tells 5 plan 0 0 0

@@ -6,7 +6,7 @@ use Rattle.plan.specs.declared.row.Hop.{Hop}
 use Rattle.plan.specs.declared.row.Row.{Row}
 use Rattle.plan.specs.declared.row.State.TheVariants.{Held}
 use Rattle.plan.specs.declared.setup.Setup.{Setup}
-use Rattle.plan.specs.Rows.{flow, flows, none, blank as no-hop}
+use Rattle.plan.specs.Rows.{flow, flows, none, blank as no_hop}
 
 -- each row has a period from 1 to 1,000,000,000 and a start below it
 abbrev pub Starts : List Row → Type 0
@@ -25,7 +25,7 @@ pub record Stored (rows : List Row) : Type 0 where
 
 -- the hop itself
 abbrev pub stored : (rows : List Row) → Stored rows → Hop
-stored rows p = slice_index_or (get_or rows p.k none).hops p.j no-hop
+stored rows p = slice_index_or (get_or rows p.k none).hops p.j no_hop
 
 -- each hop has an offset that leaves room for sums, and a wire time from 1 to the period
 abbrev pub Hops : List Row → Type 0

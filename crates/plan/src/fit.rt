@@ -1,7 +1,7 @@
 // Whether a flow fits beside the held ones, and how far it has to move.
 ghost use Rattle.std.specs.Prelude.{◌≡◌, ℕ, ◌+◌, ◌<◌, ◌≤◌, slice_index_or};
 ghost use Rattle.planning.specs.Lists.{any};
-ghost use Rattle.planning.specs.Overlaps.{meets, overlaps, fits as fitting, earliest as first-fitting};
+ghost use Rattle.planning.specs.Overlaps.{meets, overlaps, fits as fitting, earliest as first_fitting};
 ghost use Rattle.network.specs.Overlap.{starting};
 ghost use Rattle.plan.specs.Rows.{flow, flows, hop, blank, Kept, AllKept};
 ghost use Rattle.plan.specs.Moves.{Moves, Skips, blocks, clash, taken};
@@ -124,7 +124,7 @@ pub(crate) fn fits(rows: &[Row], new: &Row) -> bool
 pub(crate) fn earliest(rows: &[Row], new: &Row) -> Option<u32>
     requires kept { AllKept rows.now }
     requires new_kept { Kept new.now }
-    ensures value { result ≡ first-fitting (flows rows.now) (flow new.now) }
+    ensures value { result ≡ first_fitting (flows rows.now) (flow new.now) }
 {
     let mut s = 0;
     loop {

@@ -1,8 +1,8 @@
 // The flowspan of rows: the greatest start + total time among their flows.
 ghost use Rattle.std.specs.Prelude.{◌≡◌, ℕ, ◌<◌, ◌≤◌, slice_index_or};
 ghost use Rattle.line.specs.Meaning.{Meaning};
-ghost use Rattle.network.specs.Flows.{total as total-time};
-ghost use Rattle.planning.specs.Offers.{flowspan as greatest-end};
+ghost use Rattle.network.specs.Flows.{total as total_time};
+ghost use Rattle.planning.specs.Offers.{flowspan as greatest_end};
 ghost use Rattle.planning.specs.Setups.{network, blank};
 ghost use Rattle.plan.specs.Rows.{flow, flows, Kept, AllKept};
 ghost use Rattle.plan.specs.Setups.{setup as stored};
@@ -24,7 +24,7 @@ impl Row {
     // The total time of its flow: the last hop's offset + wire time + propagation delay.
     fn total(&self, setup: &Setup) -> u32
         requires kept { Kept self.now }
-        ensures value { (m : Meaning) → result ≡ total-time (network m (stored setup.now)) (flow self.now).hops }
+        ensures value { (m : Meaning) → result ≡ total_time (network m (stored setup.now)) (flow self.now).hops }
         ensures most { result ≤ 1100100000 }
     {
         if self.count == 0 {
@@ -38,7 +38,7 @@ impl Row {
 // The flowspan of the flows that rows hold.
 pub(crate) fn flowspan(rows: &[Row], setup: &Setup) -> u32
     requires kept { AllKept rows.now }
-    ensures value { (m : Meaning) → result ≡ greatest-end (network m (stored setup.now)) (flows rows.now) }
+    ensures value { (m : Meaning) → result ≡ greatest_end (network m (stored setup.now)) (flows rows.now) }
 {
     let mut span = 0;
     for row in rows {

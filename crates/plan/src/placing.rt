@@ -1,9 +1,9 @@
 // The row of an offered flow, and its start beside the held ones.
 ghost use Rattle.std.specs.Prelude.{◌≡◌, Some, Ok, Err};
-ghost use Rattle.planning.specs.Offers.{placed, unfit, flow as offered-flow};
+ghost use Rattle.planning.specs.Offers.{placed, unfit, flow as offered_flow};
 ghost use Rattle.plan.specs.Calls.{chosen, offered};
 ghost use Rattle.plan.specs.Offers.{Limited, Made};
-ghost use Rattle.plan.specs.Rows.{flow as row-flow, flows, Kept, AllKept};
+ghost use Rattle.plan.specs.Rows.{flow as row_flow, flows, Kept, AllKept};
 ghost use Rattle.plan.specs.Timings.{network};
 
 use crate::fit::{earliest, fits};
@@ -38,7 +38,7 @@ pub(crate) fn made<L: Line>(line: &L, setup: &Setup, flow: &FlowRecord) -> Resul
 pub(crate) fn start_beside(rows: &[Row], row: &Row, start: Start) -> Result<u32, PlanFault>
     requires kept { AllKept rows.now }
     requires row_kept { Kept row.now }
-    ensures value { result ≡ placed (flows rows.now) (chosen start) (row-flow row.now) }
+    ensures value { result ≡ placed (flows rows.now) (chosen start) (row_flow row.now) }
 {
     match start {
         Start::Chosen(s) => {

@@ -1,6 +1,6 @@
 // The checks of an offer that look at its route and its times.
 ghost use Rattle.std.specs.Prelude.{◌≡◌, ◌≤◌, [], map, length};
-ghost use Rattle.planning.specs.Offers.{regular as is-regular, misrouted as first-misrouted, overlong as first-overlong};
+ghost use Rattle.planning.specs.Offers.{regular as is_regular, misrouted as first_misrouted, overlong as first_overlong};
 ghost use Rattle.plan.specs.Rows.{hop};
 ghost use Rattle.plan.specs.Timings.{Times};
 
@@ -11,7 +11,7 @@ use line::Line;
 // Whether the period divides the cycle, which holds at most 16 periods.
 pub(crate) fn regular(cycle: u32, period: u32) -> bool
     requires some { 1 ≤ period }
-    ensures value { result ≡ is-regular cycle period }
+    ensures value { result ≡ is_regular cycle period }
 {
     cycle % period == 0 && cycle / period <= 16
 }
@@ -19,7 +19,7 @@ pub(crate) fn regular(cycle: u32, period: u32) -> bool
 // The first hop whose port is not one of the plan's, or stands earlier in the route.
 pub(crate) fn misrouted(ports: u8, route: &[u8]) -> Option<u8>
     requires few { length route.now ≤ 8 }
-    ensures value { result ≡ first-misrouted ports [] 0 route.now }
+    ensures value { result ≡ first_misrouted ports [] 0 route.now }
 {
     for (k, port) in route.iter().enumerate() {
         if *port >= ports || route[..k].contains(port) {
@@ -32,7 +32,7 @@ pub(crate) fn misrouted(ports: u8, route: &[u8]) -> Option<u8>
 // The first hop whose wire time exceeds the period.
 pub(crate) fn overlong(period: u32, hops: &[Hop]) -> Option<u8>
     requires few { length hops.now ≤ 8 }
-    ensures value { result ≡ first-overlong period 0 (map hop hops.now) }
+    ensures value { result ≡ first_overlong period 0 (map hop hops.now) }
 {
     for (k, hop) in hops.iter().enumerate() {
         if hop.wire > period {

@@ -1,7 +1,7 @@
 // The listing of a sheet: each record on a line of its own, and last the first fault.
 ghost use Rattle.std.specs.Prelude.{◌≡◌, ℕ, List, IfOk, Some, None, string_bytes, codes, ◌≢◌};
 ghost use Rattle.sheet.specs.Texts.{flow_text, gate_text, port_text};
-ghost use Rattle.records.specs.Listings.{listing as listingBy, listing_of};
+ghost use Rattle.records.specs.Listings.{listing as listing_by, listing_of};
 
 use crate::line::{fault_text, push_line};
 use sheet::{FlowRecord, GateRecord, PortRecord, Reader, RecordKind, whole_records};
@@ -41,7 +41,7 @@ impl Listed for GateRecord {
 
 // The lines of a sheet.
 fn list_records<K: Listed>(heap: Global, sheet: &[u8]) -> Result<String, AllocError>
-    ensures made { IfOk result (λ t. string_bytes t ≡ listingBy K.RecordKind.long K.RecordKind.reading K.text sheet.now) }
+    ensures made { IfOk result (λ t. string_bytes t ≡ listing_by K.RecordKind.long K.RecordKind.reading K.text sheet.now) }
 {
     let mut lines = String::new(heap);
     let count = sheet.len() / K::octet_count();

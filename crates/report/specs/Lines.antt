@@ -3,14 +3,14 @@
 use Rattle.std.specs.Prelude.{ℕ, Bool, cond, not, ◌&&◌, ◌||◌, List, length, Ok, Err, Result, nat_le, nat_lt}
 use Rattle.fault.specs.declared.kinds.PlanFault.{PlanFault}
 use Rattle.fault.specs.declared.kinds.PlanFault.TheVariants.{Filling}
-use Rattle.line.specs.Codes.{coded as meaning-of}
+use Rattle.line.specs.Codes.{coded as meaning_of}
 use Rattle.planning.specs.Lists.{any}
 use Rattle.plan.specs.Calls.{Wires}
 use Rattle.plan.specs.Models.{wires}
 
 -- an Ethernet line whose ports have these rate codes, as the calls of a plan see it
 abbrev pub coded : List ℕ → Wires
-coded cs = wires 1522 (meaning-of cs)
+coded cs = wires 1522 (meaning_of cs)
 
 -- from 1 to 32 rate codes, each 1, 2 or 3
 abbrev pub are_codes : List ℕ → Bool

@@ -1,6 +1,6 @@
 // The calls of an input.
 ghost use Rattle.std.specs.Prelude.{◌≡◌, IfOk};
-ghost use Rattle.report.specs.Inputs.{calls as calls-for};
+ghost use Rattle.report.specs.Inputs.{calls as calls_for};
 
 use crate::input::Input;
 use plan::Call;
@@ -10,7 +10,7 @@ use std::alloc::{AllocError, Global};
 impl<'a> Input<'a> {
     // The set-up, an offer for each flow record, and the question for the flowspan.
     pub(crate) fn calls(&self, heap: Global) -> Result<Vec<Call<'a>>, AllocError>
-        ensures made { IfOk result (λ v. v.items ≡ calls-for self.now.cycle self.now.ports self.now.flows) }
+        ensures made { IfOk result (λ v. v.items ≡ calls_for self.now.cycle self.now.ports self.now.flows) }
     {
         let mut calls = Vec::new(heap);
         calls.push(Call::SetUp {

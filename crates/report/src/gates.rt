@@ -2,7 +2,7 @@
 ghost use Rattle.std.specs.Prelude.{◌≡◌, ◌*◌, ◌≤◌, ◌++◌, length, IfOk, string_bytes};
 ghost use Rattle.line.specs.Kinds.{ethernet_meaning};
 ghost use Rattle.plan.specs.Models.{model, wires};
-ghost use Rattle.report.specs.GateLists.{record_line, record_lines, list_text, port_text, port_texts, lists_after as lists-text};
+ghost use Rattle.report.specs.GateLists.{record_line, record_lines, list_text, port_text, port_texts, lists_after as lists_text};
 
 use crate::hex::{hex, hex_all};
 use crate::text::refused_line;
@@ -80,7 +80,7 @@ pub(crate) fn lists_after(
     answers: &[Answer],
 ) -> Result<String, AllocError>
     requires ports { ports ≡ (ethernet_meaning plan.now.line).ports }
-    ensures made { IfOk result (λ t. string_bytes t ≡ lists-text (wires 1522 (ethernet_meaning plan.now.line)) (model plan.now.setup plan.now.rows) answers.now) }
+    ensures made { IfOk result (λ t. string_bytes t ≡ lists_text (wires 1522 (ethernet_meaning plan.now.line)) (model plan.now.setup plan.now.rows) answers.now) }
 {
     if answers.is_empty() {
         return Ok(String::new(heap));

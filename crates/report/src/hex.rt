@@ -1,13 +1,13 @@
 // Octets in hexadecimal.
 ghost use Rattle.std.specs.Prelude.{◌≡◌, ◌<◌, IfOk, string_bytes};
-ghost use Rattle.report.specs.GateLists.{digit as digit-code, hex as hex-text, hex_octets};
+ghost use Rattle.report.specs.GateLists.{digit as digit_code, hex as hex_text, hex_octets};
 
 use std::alloc::{AllocError, Global};
 
 // A hexadecimal digit.
 fn digit(n: u8) -> char
     requires one { n < 16 }
-    ensures value { result ≡ digit-code n }
+    ensures value { result ≡ digit_code n }
     ensures ascii { result < 128 }
 {
     let code = if n < 10 { b'0' + n } else { b'A' + (n - 10) };
@@ -16,7 +16,7 @@ fn digit(n: u8) -> char
 
 // An octet as two hexadecimal digits.
 pub(crate) fn hex(heap: Global, octet: u8) -> Result<String, AllocError>
-    ensures made { IfOk result (λ t. string_bytes t ≡ hex-text octet) }
+    ensures made { IfOk result (λ t. string_bytes t ≡ hex_text octet) }
 {
     let mut text = String::new(heap);
     text.push(digit(octet / 16))?;

@@ -6,7 +6,7 @@ ghost use Rattle.plan.specs.Models.{wires};
 ghost use Rattle.plan.specs.Steps.{after, replies};
 ghost use Rattle.report.specs.GateLists.{lists_after, gate_lists};
 ghost use Rattle.report.specs.Inputs.{calls};
-ghost use Rattle.report.specs.Listings.{listed as listed-text, listing as listing-text};
+ghost use Rattle.report.specs.Listings.{listed as listed_text, listing as listing_text};
 
 use crate::gates::lists_after;
 use crate::input::Input;
@@ -17,7 +17,7 @@ use std::alloc::{AllocError, Global};
 
 // What is listed of an input on a line.
 fn planned(heap: Global, line: Ethernet, input: &Input<'_>) -> Result<String, AllocError>
-    ensures made { IfOk result (λ t. string_bytes t ≡ listed-text input.now.flows.now (replies (wires 1522 (ethernet_meaning line)) empty 0 (calls input.now.cycle input.now.ports input.now.flows))) }
+    ensures made { IfOk result (λ t. string_bytes t ≡ listed_text input.now.flows.now (replies (wires 1522 (ethernet_meaning line)) empty 0 (calls input.now.cycle input.now.ports input.now.flows))) }
 {
     let calls = input.calls(heap)?;
     let mut buffer = [];
@@ -29,7 +29,7 @@ fn planned(heap: Global, line: Ethernet, input: &Input<'_>) -> Result<String, Al
 
 // The listing of the octets of an input: a line for each flow record and last the flowspan, or one line for a refusal before them.
 pub fn listing(heap: Global, octets: &[u8]) -> Result<String, AllocError>
-    ensures made { IfOk result (λ t. string_bytes t ≡ listing-text octets.now) }
+    ensures made { IfOk result (λ t. string_bytes t ≡ listing_text octets.now) }
 {
     let Some(input) = Input::new(octets) else {
         return format!(in heap; "X 1\n");

@@ -1,6 +1,6 @@
 // The lines of a listing.
 ghost use Rattle.std.specs.Prelude.{◌≡◌, IfOk, Ok, Err, string_bytes};
-ghost use Rattle.report.specs.Listings.{number_of, refused_line, answer_line, answer_lines, listed as listed-text};
+ghost use Rattle.report.specs.Listings.{number_of, refused_line, answer_line, answer_lines, listed as listed_text};
 
 use fault::PlanFault;
 use plan::{Answer, Reply};
@@ -69,7 +69,7 @@ fn lines(heap: Global, flows: &[u8], answers: &[Answer]) -> Result<String, Alloc
 
 // What is listed of the answers to a set-up and the calls after it.
 pub(crate) fn listed(heap: Global, flows: &[u8], answers: &[Answer]) -> Result<String, AllocError>
-    ensures made { IfOk result (λ t. string_bytes t ≡ listed-text flows.now answers.now) }
+    ensures made { IfOk result (λ t. string_bytes t ≡ listed_text flows.now answers.now) }
 {
     if answers.is_empty() {
         return Ok(String::new(heap));

@@ -2,7 +2,7 @@
 ghost use Rattle.std.specs.Prelude.{◌≡◌, ◌+◌, ◌*◌, ◌^◌, ◌<◌, length, take};
 ghost use Rattle.sheet.specs.Fields.{field as field_of, packed, Fit};
 ghost use Rattle.sheet.specs.Limits.{from_to, zero_at};
-ghost use Rattle.sheet.specs.Flows.{chosen_bit, start_field, start_of, idle_start, flow_of, used as usedSlot, unused as unusedSlot, flow_zeros, flow_limits, head_parts, route_parts, read_flow, judge_flow, written_flow};
+ghost use Rattle.sheet.specs.Flows.{chosen_bit, start_field, start_of, idle_start, flow_of, used as used_slot, unused as unused_slot, flow_zeros, flow_limits, head_parts, route_parts, read_flow, judge_flow, written_flow};
 ghost use Rattle.sheet.specs.FlowsLemmas.{flow-readback, flow-writable, flow-rewritten};
 ghost use Rattle.std.proofs.Common.{rules};
 
@@ -116,7 +116,7 @@ impl FlowRecord {
     // A slot before the hop count, with its limits.
     fn used(&self, slot: u16) -> Limited
         requires slot { slot < 8 }
-        ensures value { result ≡ from_to (125 + 5 * slot) (usedSlot self.now slot) 0 31 }
+        ensures value { result ≡ from_to (125 + 5 * slot) (used_slot self.now slot) 0 31 }
     {
         let port = if slot < u16::from(self.hops) {
             self.ports[slot as usize]
@@ -129,7 +129,7 @@ impl FlowRecord {
     // A slot from the hop count on, which must be zero.
     fn unused(&self, slot: u16) -> Limited
         requires slot { slot < 8 }
-        ensures value { result ≡ zero_at (125 + 5 * slot) (unusedSlot self.now slot) }
+        ensures value { result ≡ zero_at (125 + 5 * slot) (unused_slot self.now slot) }
         ensures slots { length self.now.ports ≡ 8 }
     {
         let port = if slot < u16::from(self.hops) {

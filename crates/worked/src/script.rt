@@ -4,7 +4,7 @@ ghost use Rattle.sheet.specs.Flows.{written_flow};
 ghost use Rattle.sheet.specs.Ports.{written_port};
 ghost use Rattle.sheet.specs.Sheets.{written_sheet};
 ghost use Rattle.sheet.specs.Writings.{answered_sheet, put};
-ghost use Rattle.worked.specs.Case.{port as port_record, flows as flow-records};
+ghost use Rattle.worked.specs.Case.{port as port_record, flows as flow_records};
 
 use fault::PlanFault;
 use sheet::{FlowRecord, PortRecord, RecordKind, Start, write_sheet};
@@ -25,7 +25,7 @@ pub(crate) fn port_sheet(buffer: &mut [u8]) -> Result<usize, PlanFault>
 // Flows 7 and 9, which fit, flow 11, whose period does not divide the cycle, and flow 13, whose chosen start is taken.
 pub(crate) fn flow_sheet(buffer: &mut [u8]) -> Result<usize, PlanFault>
     ensures value { result ≡ answered_sheet 84 (length buffer.old) (Ok tt) }
-    ensures after { buffer.new ≡ put result 84 (written_sheet written_flow flow-records) buffer.old }
+    ensures after { buffer.new ≡ put result 84 (written_sheet written_flow flow_records) buffer.old }
 {
     let seven = FlowRecord {
         number: 7,
