@@ -1,9 +1,9 @@
 -- Flows that a plan can hold stay so: with the flow of a done offer, and without some of them.
 -- Assumes nothing.
-use Rattle.std.proofs.Common.{◌≡◌, ℕ, ◌/◌, ◌<◌, ◌≤◌, Bool, true, false, cond, leb, List, [], ◌∷◌, length, Some, None, Ok, Err, Option, Result, sym, refl, ap, ◌∙◌, subst, arith}
-use Rattle.std.proofs.lemmas.Bool.{leb-false}
+use Rattle.std.proofs.Common.{◌≡◌, ℕ, ◌/◌, ◌<◌, ◌≤◌, Bool, true, false, List, [], ◌∷◌, length, Some, None, Ok, Err, Option, Result, sym, refl, ap, ◌∙◌, subst, arith}
+use Rattle.std.proofs.lemmas.Bool.Decides.{nat_tests}
 use Rattle.fault.specs.declared.kinds.PlanFault.{PlanFault}
-use Rattle.fault.specs.declared.kinds.PlanFault.TheVariants.{Start, Taken, NoStart}
+use Rattle.fault.specs.declared.kinds.PlanFault.TheVariants.{NoStart}
 use Rattle.network.specs.Flows.{Flow, Network, Well, Formed}
 use Rattle.network.specs.Overlap.{starting, Overlap, Fits}
 use Rattle.network.proofs.Lists.{At-empty}
@@ -92,26 +92,21 @@ answer_ok : (o : Option PlanFault) (rest : Result ℕ PlanFault) (s : ℕ) →
 answer_ok (Some e) rest s done = let z : ◌≡◌ {A = ℕ} 0 1 = cc in absurd (omega arith)
 answer_ok None rest s done = (refl, done)
 
--- the answer to a start s that is chosen and tested, and to the earliest
-abbrev tested : Bool → Bool → ℕ → Result ℕ PlanFault
-tested late fit s = cond late (Err Start) (cond fit (Ok s) (Err Taken))
+-- a start that is chosen and placed is below the period, and the flow fits at it
+placed_chosen : (flows : List Flow) (f : Flow) (r s : ℕ) → placed flows (Some r) f ≡ Ok s → (r ≡ s) × (r < f.period) × (fits flows (starting r f) ≡ true)
+placed_chosen flows f r s done = (grind (arith, nat_tests), grind (arith, nat_tests), grind (arith, nat_tests))
 
+-- the answer to the earliest start
 abbrev found : Option ℕ → Result ℕ PlanFault
 found o = elim o [ Some s ↦ Ok s | None ↦ Err NoStart ]
 
 -- the start of a flow that is placed is below its period and fits
 module _ (flows : List Flow) (repeat : Repeat flows) (f : Flow) (repeats : 0 < f.period) where
   placed_ok : (chosen : Option ℕ) (s : ℕ) → placed flows chosen f ≡ Ok s → (s < f.period) × Fits flows (starting s f)
-  placed_ok (Some r) s done = go (leb f.period r) (fits flows (starting r f)) refl refl done
-    where
-      go : (late fit : Bool) → leb f.period r ≡ late → fits flows (starting r f) ≡ fit → tested late fit r ≡ Ok s → (s < f.period) × Fits flows (starting s f)
-      go true fit _ _ e = let z : ◌≡◌ {A = ℕ} 0 1 = cc in absurd (omega arith)
-      go false false _ _ e = let z : ◌≡◌ {A = ℕ} 0 1 = cc in absurd (omega arith)
-      go false true below fit e =
-          let same : r ≡ s = cc in
-          let less = leb-false f.period r below in
-          let fits-r = (decides-fits flows repeat (starting r f) repeats).0 fit in
-          (omega arith, subst (λ (z : ℕ). Fits flows (starting z f)) same fits-r)
+  placed_ok (Some r) s done =
+      let (same, below, fit) = placed_chosen flows f r s done in
+      let fits-r = (decides-fits flows repeat (starting r f) repeats).0 fit in
+      (omega arith, subst (λ (z : ℕ). Fits flows (starting z f)) same fits-r)
   placed_ok None s done = go (earliest flows f) refl done
     where
       go : (o : Option ℕ) → earliest flows f ≡ o → found o ≡ Ok s → (s < f.period) × Fits flows (starting s f)
