@@ -3,7 +3,7 @@
 use Rattle.std.specs.Prelude.{◌≡◌, ℕ, ◌*◌, cond, List, [], ◌++◌, map, length, drop, ℤ, pos, negsuc, Some, None, Option, nat_le}
 use Rattle.plan.specs.declared.call.Call.{Call}
 use Rattle.plan.specs.Calls.{Wires, empty}
-use Rattle.plan.specs.Promise.{Assures}
+use Rattle.plan.specs.Promise.{Assures, ListsFit}
 use Rattle.plan.specs.Steps.{after, replies, buffered}
 use Rattle.interface.specs.Answers.{answers_octets}
 use Rattle.interface.specs.Spoken.{Spoken, call, calls_of}
@@ -40,7 +40,8 @@ calls (Some cs) = map call cs
 abbrev pub said : List ℕ → List Call
 said octets = calls (calls_of octets)
 
--- what octets came to on a new plan on a line is their outcome, and what the plan holds after them is assured
+-- what octets came to on a new plan on a line is their outcome, what the plan holds after them is assured, and none of its gate lists is longer than 3,073 records
 pub record Performs (w : Wires) (octets answers buffer : List ℕ) (came : Outcome) : Type 0 where
   pub outcome : came ≡ outcome w octets answers buffer
   pub assured : Assures w (after w empty (said octets))
+  pub lists : ListsFit w (after w empty (said octets))

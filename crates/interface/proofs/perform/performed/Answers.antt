@@ -8,7 +8,7 @@ use Rattle.plan.specs.Alike.{Alike}
 use Rattle.plan.specs.Calls.{Wires}
 use Rattle.plan.specs.Models.{model, setup, wires}
 use Rattle.plan.specs.Steps.{next, reply, written}
-use Rattle.plan.proofs.Assured.{always-assured}
+use Rattle.plan.proofs.Assured.{always-assured, lists_always_fit}
 use Rattle.plan.proofs.Called.{same_of}
 use Rattle.interface.specs.Performed.{came_to, done, said}
 use Rattle.interface.specs.Spoken.{call, calls_of, spoken}
@@ -29,7 +29,7 @@ returns-in_default g c =
     let w = wires g.L.Line.most (g.L.Line.meaning c.args.line) in
     let calls = c.args.calls.now in
     let is = no-calls w c.args.answers.now c.args.buffer.now (calls_of calls) (not-counted (calls_of calls) c.in_default.ensures.value) in
-    record { performs = record { outcome = is; assured = always-assured w (rules g c.args.line) (said calls) } }
+    record { performs = record { outcome = is; assured = always-assured w (rules g c.args.line) (said calls); lists = lists_always_fit w (rules g c.args.line) (said calls) } }
 
 pub returns-then-answers-count : goal.returns-then-answers-count
 returns-then-answers-count g c =
@@ -38,7 +38,7 @@ returns-then-answers-count g c =
     let count = is-counted (calls_of calls) c.in-Some.count c.in-Some.ensures.value in
     let many = count.1 in
     let is = no_room w c.args.answers.now c.args.buffer.now (calls_of calls) (listed (calls_of calls)) count.0 (omega arith) in
-    record { performs = record { outcome = is; assured = always-assured w (rules g c.args.line) (said calls) } }
+    record { performs = record { outcome = is; assured = always-assured w (rules g c.args.line) (said calls); lists = lists_always_fit w (rules g c.args.line) (said calls) } }
 
 pub loop-call-init : goal.loop-call-init
 loop-call-init g c =
@@ -106,5 +106,6 @@ returns g c =
       performs = record {
         outcome = ap (λ (n : ℤ). came_to n c.loop-call.answers c.loop-call.buffer) number ∙ through ∙ ap (λ (u : Wires). done u (map call ss) a b) v ∙ is;
         assured = always-assured w (rules g x) (said calls);
+        lists = lists_always_fit w (rules g x) (said calls);
       };
     }
