@@ -1,3 +1,4 @@
+pub mod Arrays
 pub mod Judgments
 pub mod Placed
 pub mod RoundTrips

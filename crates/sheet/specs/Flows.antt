@@ -1,32 +1,33 @@
 -- The flow record, 21 octets: its fields by first bit and bits, and their limits.
 -- Assumes nothing.
-use Rattle.std.specs.Prelude.{ℕ, cond, List, [], ◌∷◌, ◌++◌, length, Err, Result, ◌==◌, nat_lt, slice_index}
+use Rattle.std.specs.Prelude.{ℕ, cond, min, List, [], ◌∷◌, ◌++◌, length, map, Some, None, Err, Option, Result, ◌==◌, nat_lt, slice_index}
+use Rattle.std.specs.Bool.{then_some}
+use Rattle.std.specs.List.{range_with_len}
 use Rattle.fault.specs.declared.kinds.RecordFault.{RecordFault}
 use Rattle.fault.specs.declared.kinds.RecordFault.TheVariants.{OutOfLimits}
 use Rattle.sheet.specs.declared.limited.Limited.{Limited}
 use Rattle.sheet.specs.declared.flow.FlowRecord.{FlowRecord}
-use Rattle.sheet.specs.declared.flow.Start.{Start}
-use Rattle.sheet.specs.declared.flow.Start.TheVariants.{Chosen, Free}
 use Rattle.sheet.specs.Fields.{field, octets, packed, Part, part}
 use Rattle.sheet.specs.Limits.{from_to, zero_at, judged, accepted, exactly}
 
 -- whether a start is chosen, as its bit
-abbrev pub chosen_bit : Start → ℕ
-chosen_bit (Chosen v) = 1
-chosen_bit Free = 0
+abbrev pub chosen_bit : Option ℕ → ℕ
+chosen_bit (Some v) = 1
+chosen_bit None = 0
 
 -- the start field of a start
-abbrev pub start_field : Start → ℕ
-start_field (Chosen v) = v
-start_field Free = 0
+abbrev pub start_field : Option ℕ → ℕ
+start_field (Some v) = v
+start_field None = 0
 
 -- the start of a bit and a start field
-abbrev pub start_of : ℕ → ℕ → Start
-start_of c v = cond (c == 1) (Chosen v) Free
+abbrev pub start_of : ℕ → ℕ → Option ℕ
+start_of c v = then_some (c == 1) v
 
--- the start field where the start is not chosen
-abbrev pub idle_start : ℕ → ℕ → ℕ
-idle_start c v = cond (c == 1) 0 v
+-- what must be zero of a start field v: all of it where no start is chosen
+abbrev pub idle_start : Option ℕ → ℕ → ℕ
+idle_start (Some _) v = 0
+idle_start None v = v
 
 -- the record that the octets hold
 abbrev pub flow_of : List ℕ → FlowRecord
@@ -42,6 +43,14 @@ flow_of s =
           field 21 125 5 s ∷ field 21 130 5 s ∷ field 21 135 5 s ∷ field 21 140 5 s
           ∷ field 21 145 5 s ∷ field 21 150 5 s ∷ field 21 155 5 s ∷ field 21 160 5 s ∷ [];
     }
+
+-- the hop count of a route: nine where it is longer than eight ports
+abbrev pub hop_count : List ℕ → ℕ
+hop_count route = min (length route) 9
+
+-- the port slots of a route: its ports first, the rest zero
+abbrev pub port_slots : List ℕ → List ℕ
+port_slots route = map (slice_index route) (range_with_len 0 8)
 
 -- what a port slot holds before the hop count
 abbrev pub used : FlowRecord → ℕ → ℕ
@@ -90,7 +99,7 @@ abbrev pub read_flow : ℕ → List ℕ → Result FlowRecord RecordFault
 read_flow k s =
     exactly 21 k s
     (accepted
-    (judged k (flow_zeros (idle_start (field 21 90 1 s) (field 21 91 30 s)) (field 21 165 3 s) (flow_of s)) (flow_limits (flow_of s)))
+    (judged k (flow_zeros (idle_start (flow_of s).start (field 21 91 30 s)) (field 21 165 3 s) (flow_of s)) (flow_limits (flow_of s)))
     (flow_of s))
 
 -- a record has eight port slots: no value of its type has another number

@@ -1,13 +1,11 @@
 -- The flow record: its reading and its writing undo each other.
-use Rattle.std.specs.Prelude.{◌≡◌, ℕ, zero, suc, ◌+◌, ◌*◌, ◌/◌, ◌%◌, ◌^◌, ◌<◌, ◌≤◌, Bool, true, false, cond, List, [], ◌∷◌, ◌++◌, length, Ok, Err, Result, ◌==◌, nat_lt, slice_index, slice_index_or, refl}
+use Rattle.std.specs.Prelude.{◌≡◌, ℕ, zero, suc, ◌+◌, ◌*◌, ◌/◌, ◌%◌, ◌^◌, ◌<◌, ◌≤◌, Bool, true, false, cond, List, [], ◌∷◌, ◌++◌, length, Some, None, Ok, Err, Option, Result, ◌==◌, nat_lt, slice_index, slice_index_or, refl}
 use Rattle.std.proofs.Common.{sym, ap, subst, ◌∙◌, arith}
 use Rattle.std.proofs.lemmas.Bool.{cond-true, eq-eqb, eqb-true}
 use Rattle.fault.specs.declared.kinds.RecordFault.{RecordFault}
 use Rattle.fault.specs.declared.kinds.RecordFault.TheVariants.{OutOfLimits}
 use Rattle.sheet.specs.declared.limited.Limited.{Limited}
 use Rattle.sheet.specs.declared.flow.FlowRecord.{FlowRecord}
-use Rattle.sheet.specs.declared.flow.Start.{Start}
-use Rattle.sheet.specs.declared.flow.Start.TheVariants.{Chosen, Free}
 use Rattle.sheet.specs.Fields.{Octets, field, number, octets, Part, part, packed, Fit}
 use Rattle.sheet.specs.Flows.{chosen_bit, start_field, start_of, idle_start, flow_of, flow_zeros, flow_limits, eight, head_parts, route_parts, flow_parts, read_flow, judge_flow, written_flow}
 use Rattle.sheet.specs.Limits.{judged, accepted}
@@ -22,17 +20,16 @@ eight-slots k ports r l = cond-true (length ports == 8) _ _ (eq-eqb (length port
 pub flow_reading :
     (k : ℕ) (s : List ℕ) → length s ≡ 21
     → {x : FlowRecord} → x ≡ flow_of s
-    → {c v w n : ℕ} → c ≡ field (length s) 90 1 s → v ≡ field (length s) 91 30 s → w ≡ idle_start c v → n ≡ field (length s) 165 3 s
+    → {w n : ℕ} → w ≡ idle_start x.start (field 21 91 30 s) → n ≡ field 21 165 3 s
     → (j : Result (Unit {0}) RecordFault) {zs ls : List Limited} → zs ≡ flow_zeros w n x → ls ≡ flow_limits x → j ≡ judged k zs ls
     → accepted j x ≡ read_flow k s
-flow_reading k s l same chosen value idle spare j zeros limits e =
-    let sized : (b m : ℕ) → field (length s) b m s ≡ field 21 b m s = λ b m. ap (λ (z : ℕ). field z b m s) l in
-    let start = idle ∙ (λ i. idle_start ((chosen ∙ sized 90 1) i) ((value ∙ sized 91 30) i)) in
-    reading_from 21 k s j l (zeros ∙ (λ i. flow_zeros (start i) ((spare ∙ sized 165 3) i) (same i))) (limits ∙ ap flow_limits same) same e
+flow_reading k s l same idle spare j zeros limits e =
+    let start = idle ∙ (λ i. idle_start (same i).start (field 21 91 30 s)) in
+    reading_from 21 k s j l (zeros ∙ (λ i. flow_zeros (start i) (spare i) (same i))) (limits ∙ ap flow_limits same) same e
 
-chosen_bit-lt : (t : Start) → chosen_bit t < 2
-chosen_bit-lt (Chosen v) = omega arith
-chosen_bit-lt Free = omega arith
+chosen_bit-lt : (t : Option ℕ) → chosen_bit t < 2
+chosen_bit-lt (Some v) = omega arith
+chosen_bit-lt None = omega arith
 
 -- a slot that is zero or has its limits
 slot_lt : (b : Bool) (v : ℕ) → cond b 0 v ≤ 0 → cond b v 0 ≤ 31 → v < 32
@@ -113,13 +110,13 @@ flow-octets x h r head route wide narrow =
         let e : h * 8796093022208 + r * 8 ≡ h * 8 * 2 ^ 40 + (r * 8) % 2 ^ 64 = omega arith in
         ap (octets 5) (all ∙ e) ∙ octets_above 5 5 (h * 8) ((r * 8) % 2 ^ 64) (omega arith)
 
-start_of-start : (t : Start) → start_of (chosen_bit t) (start_field t) ≡ t
-start_of-start (Chosen v) = refl
-start_of-start Free = refl
+start_of-start : (t : Option ℕ) → start_of (chosen_bit t) (start_field t) ≡ t
+start_of-start (Some v) = refl
+start_of-start None = refl
 
-idle_start-start : (t : Start) → idle_start (chosen_bit t) (start_field t) ≡ 0
-idle_start-start (Chosen v) = refl
-idle_start-start Free = refl
+idle_start-start : (t : Option ℕ) → idle_start (start_of (chosen_bit t) (start_field t)) (start_field t) ≡ 0
+idle_start-start (Some v) = refl
+idle_start-start None = refl
 
 -- the bits of its fields
 abbrev flow_widths : List ℕ
@@ -146,8 +143,8 @@ reads-parts x k s l all writable =
     = λ i. ap (λ (fs : List Part). (slice_index_or fs i (part 0 0)).value) all in
     let start : start_of (field 21 90 1 s) (field 21 91 30 s) ≡ x.start
     = (λ i. start_of (at 4 i) (at 5 i)) ∙ start_of-start x.start in
-    let idle : idle_start (field 21 90 1 s) (field 21 91 30 s) ≡ 0
-    = (λ i. idle_start (at 4 i) (at 5 i)) ∙ idle_start-start x.start in
+    let idle : idle_start (flow_of s).start (field 21 91 30 s) ≡ 0
+    = (λ i. idle_start (start_of (at 4 i) (at 5 i)) (at 5 i)) ∙ idle_start-start x.start in
     let ports : (flow_of s).ports ≡ x.ports
     = (λ i. at 7 i ∷ at 8 i ∷ at 9 i ∷ at 10 i ∷ at 11 i ∷ at 12 i ∷ at 13 i ∷ at 14 i ∷ [])
     ∙ sym (listed 8 x.ports writable.slots) in
@@ -163,7 +160,7 @@ reads-parts x k s l all writable =
       ports = ports i;
     } in
     let spare : field 21 165 3 s ≡ 0 = at 15 in
-    let clean : Clean (flow_zeros (idle_start (field 21 90 1 s) (field 21 91 30 s)) (field 21 165 3 s) (flow_of s)) (flow_limits (flow_of s))
+    let clean : Clean (flow_zeros (idle_start (flow_of s).start (field 21 91 30 s)) (field 21 165 3 s) (flow_of s)) (flow_limits (flow_of s))
     = coe-clean idle spare same writable.clean in
     reading_judged (flow_of s) 21 k s _ l ∙ accepted_clean (flow_of s) k _ (flow_limits (flow_of s)) clean ∙ ap Ok same
 
@@ -173,7 +170,7 @@ flow-readback x j k e =
     reads-parts x k (written_flow x) refl (unpacked_octets 21 (flow_parts x) (fit_parts x (fits x writable.clean)) refl) writable
 
 -- a start field that is zero where the start is not chosen is the field of its start
-idle-zero : (c v : ℕ) → c < 2 → idle_start c v ≡ 0 → (chosen_bit (start_of c v) ≡ c) × (start_field (start_of c v) ≡ v)
+idle-zero : (c v : ℕ) → c < 2 → idle_start (start_of c v) v ≡ 0 → (chosen_bit (start_of c v) ≡ c) × (start_field (start_of c v) ≡ v)
 idle-zero zero v bit idle = (refl, sym idle)
 idle-zero (suc zero) v bit idle = (refl, refl)
 idle-zero (suc (suc c)) v bit idle = absurd (omega arith)
@@ -182,7 +179,7 @@ idle-zero (suc (suc c)) v bit idle = absurd (omega arith)
 record Accepted (x : FlowRecord) (s : List ℕ) : Type 0 where
   long : length s ≡ 21
   same : flow_of s ≡ x
-  idle : idle_start (field 21 90 1 s) (field 21 91 30 s) ≡ 0
+  idle : idle_start (flow_of s).start (field 21 91 30 s) ≡ 0
   spare : field 21 165 3 s ≡ 0
   clean : Clean (flow_zeros 0 0 (flow_of s)) (flow_limits (flow_of s))
 
@@ -195,7 +192,7 @@ zero_zeros v n y i =
 
 accepted-from_read : (x : FlowRecord) (k : ℕ) (s : List ℕ) → read_flow k s ≡ Ok x → Accepted x s
 accepted-from_read x k s e =
-    let v : ℕ = idle_start (field 21 90 1 s) (field 21 91 30 s) in
+    let v : ℕ = idle_start (flow_of s).start (field 21 91 30 s) in
     let n : ℕ = field 21 165 3 s in
     let r = read_from_accepted 21 k s (flow_zeros v n (flow_of s)) (flow_limits (flow_of s)) e in
     let z = zero_zeros v n (flow_of s) r.clean.zeros_inside in

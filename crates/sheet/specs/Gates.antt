@@ -1,10 +1,11 @@
 -- The gate record, 5 octets: its fields by first bit and bits, its states and its limits.
 -- Assumes nothing.
-use Rattle.std.specs.Prelude.{ℕ, cond, List, [], ◌∷◌, Result, ◌==◌}
+use Rattle.std.specs.Prelude.{◌≡◌, ◌≢◌, ℕ, cond, List, [], ◌∷◌, Result, MatchResult, ◌==◌}
 use Rattle.fault.specs.declared.kinds.RecordFault.{RecordFault}
 use Rattle.sheet.specs.declared.limited.Limited.{Limited}
 use Rattle.sheet.specs.declared.gate.GateRecord.{GateRecord}
 use Rattle.sheet.specs.declared.gate.GateState.{GateState}
+use Rattle.sheet.specs.declared.gate.UnknownState.{UnknownState}
 use Rattle.sheet.specs.declared.gate.GateState.TheVariants.{Scheduled, BestEffort, Closed}
 use Rattle.sheet.specs.Fields.{field, octets, packed, Part, part}
 use Rattle.sheet.specs.Limits.{from_to, zero_at, judged, accepted, exactly}
@@ -18,6 +19,10 @@ octet_of Closed = 0x00
 -- the state of an octet: what is neither of the first two can only be the third
 abbrev pub state_of : ℕ → GateState
 state_of n = cond (n == 0x80) Scheduled (cond (n == 0x7f) BestEffort Closed)
+
+-- the state is the one of the octet, or no state has the octet
+abbrev pub IsStateOf : ℕ → Result GateState UnknownState → Type 0
+IsStateOf n r = MatchResult r (λ state. octet_of state ≡ n) (λ e. (e.0 ≡ n) × ((state : GateState) → octet_of state ≢ n))
 
 -- the record that the octets hold
 abbrev pub gate_of : List ℕ → GateRecord

@@ -1,16 +1,16 @@
 -- The gate record: its reading and its writing undo each other.
-use Rattle.std.specs.Prelude.{◌≡◌, ℕ, ◌+◌, ◌*◌, ◌/◌, ◌%◌, ◌<◌, List, [], ◌∷◌, length, Ok, Result, slice_index, slice_index_or, refl}
+use Rattle.std.specs.Prelude.{◌≡◌, ◌≢◌, ℕ, ◌+◌, ◌*◌, ◌/◌, ◌%◌, ◌<◌, List, [], ◌∷◌, length, Ok, Err, Result, slice_index, slice_index_or, refl}
 use Rattle.std.proofs.Common.{sym, ap, subst, ◌∙◌, arith}
 use Rattle.fault.specs.declared.kinds.RecordFault.{RecordFault}
-use Rattle.sheet.specs.declared.limited.Limited.{Limited}
+use Rattle.fault.specs.declared.kinds.RecordFault.TheVariants.{OutOfLimits}
 use Rattle.sheet.specs.declared.gate.GateRecord.{GateRecord}
 use Rattle.sheet.specs.declared.gate.GateState.{GateState}
 use Rattle.sheet.specs.declared.gate.GateState.TheVariants.{Scheduled, BestEffort, Closed}
 use Rattle.sheet.specs.Fields.{Octets, field, number, octets, Part, part, packed, Fit}
 use Rattle.sheet.specs.Gates.{octet_of, state_of, gate_of, gate_spare, gate_limits, gate_parts, read_gate, judge_gate, written_gate}
-use Rattle.sheet.specs.Limits.{zero_at, judged, accepted}
+use Rattle.sheet.specs.Limits.{from_to, zero_at, refusal, judged, accepted}
 use Rattle.sheet.specs.Elements.{listed}
-use Rattle.sheet.specs.Judged.{Inside, Clean, clean_from_judged, judged_clean, read_from_accepted, reading_judged, reading_from, accepted_clean}
+use Rattle.sheet.specs.Judged.{Inside, none_from_inside, outside_differs, Clean, clean_from_judged, judged_clean, read_from_accepted, reading_judged, reading_from, accepted_clean}
 use Rattle.sheet.specs.Packed.{unpacked, unpacked_octets, octets_packed}
 
 -- the bits of its fields
@@ -22,7 +22,7 @@ octet_of-lt Scheduled = omega arith
 octet_of-lt BestEffort = omega arith
 octet_of-lt Closed = omega arith
 
-state_of-octet_of : (s : GateState) → state_of (octet_of s) ≡ s
+pub state_of-octet_of : (s : GateState) → state_of (octet_of s) ≡ s
 state_of-octet_of Scheduled = refl
 state_of-octet_of BestEffort = refl
 state_of-octet_of Closed = refl
@@ -98,18 +98,30 @@ apart s o l =
     let fifth = o 4 in
     record { state = omega arith; spare = omega arith; duration = omega arith }
 
--- the reading, from the state octet and the word
-module _ (k : ℕ) (s : List ℕ) (o : Octets s) (l : length s ≡ 5) (w : ℕ) (is_IsWord : w ≡ word s) (t : GateState) (is_state : t ≡ state_of (slice_index s 0)) where
-  pub gate_reading :
-      (j : Result (Unit {0}) RecordFault) (z : Limited) (ls : List Limited)
-      → z ≡ zero_at 8 (w / 1073741824) → ls ≡ gate_limits (slice_index s 0) (record { state = t; duration = w % 1073741824 })
-      → j ≡ judged k (z ∷ []) ls → accepted j (record { state = t; duration = w % 1073741824 }) ≡ read_gate k s
-  gate_reading j z ls zero limits e =
+-- the readings of five octets whose spare bits are zero, from the state octet and the word
+module _ (k : ℕ) (s : List ℕ) (o : Octets s) (l : length s ≡ 5) (w : ℕ) (is_IsWord : w ≡ word s) (spare_zero : w / 1073741824 ≡ 0) where
+  spare-zero : field 5 8 2 s ≡ 0
+  spare-zero = (apart s o l).spare ∙ ap (λ (v : ℕ). v / 1073741824) (sym is_IsWord) ∙ spare_zero
+
+  -- the octet of a state
+  pub read-known :
+      (t : GateState) → octet_of t ≡ slice_index s 0 → (j : Result (Unit {0}) RecordFault)
+      → j ≡ judge_gate k (record { state = t; duration = w }) → accepted j (record { state = t; duration = w }) ≡ read_gate k s
+  read-known t known j e =
       let a = apart s o l in
-      let state : t ≡ state_of (field 5 0 8 s) = is_state ∙ ap state_of (sym a.state) in
-      let duration : w % 1073741824 ≡ field 5 10 30 s = ap (λ (v : ℕ). v % 1073741824) is_IsWord ∙ sym a.duration in
-      let spare : w / 1073741824 ≡ field 5 8 2 s = ap (λ (v : ℕ). v / 1073741824) is_IsWord ∙ sym a.spare in
-      let same : record { state = t; duration = w % 1073741824 } ≡ gate_of s
-      = λ i. record { state = state i; duration = duration i } in
-      let zeros : z ∷ [] ≡ gate_spare s = (λ i. zero i ∷ []) ∙ (λ i. zero_at 8 (spare i) ∷ []) in
-      reading_from 5 k s j l zeros (limits ∙ (λ i. gate_limits (sym a.state i) (same i))) same e
+      let octet : octet_of t ≡ field 5 0 8 s = known ∙ sym a.state in
+      let state : t ≡ state_of (field 5 0 8 s) = sym (state_of-octet_of t) ∙ ap state_of octet in
+      let low : w % 1073741824 ≡ w = omega arith in
+      let duration : w ≡ field 5 10 30 s = sym low ∙ ap (λ (v : ℕ). v % 1073741824) is_IsWord ∙ sym a.duration in
+      let same : record { state = t; duration = w } ≡ gate_of s = λ i. record { state = state i; duration = duration i } in
+      reading_from 5 k s j l (λ i. zero_at 8 (sym spare-zero i) ∷ []) (λ i. gate_limits (octet i) (same i)) same e
+
+  -- any other octet
+  pub read-unknown : ((t : GateState) → octet_of t ≢ slice_index s 0) → Err (OutOfLimits k 0) ≡ read_gate k s
+  read-unknown unknown =
+      let a = apart s o l in
+      let differ : field 5 0 8 s ≢ octet_of (gate_of s).state = λ e. unknown (gate_of s).state (sym e ∙ a.state) in
+      let zeros : Inside (gate_spare s) = let zero = spare-zero in omega arith in
+      let judgment : judged k (gate_spare s) (gate_limits (field 5 0 8 s) (gate_of s)) ≡ Err (OutOfLimits k 0)
+      = λ i. refusal k (none_from_inside (gate_spare s) zeros i) (outside_differs 0 (field 5 0 8 s) (octet_of (gate_of s).state) (from_to 10 (gate_of s).duration 1 1_000_000_000 ∷ []) differ i) in
+      sym (reading_judged (gate_of s) 5 k s _ l ∙ ap (λ (j : Result (Unit {0}) RecordFault). accepted j (gate_of s)) judgment)

@@ -1,29 +1,33 @@
 -- What an accepted record says of its fields, and what makes it accepted.
-use Rattle.std.specs.Prelude.{◌≡◌, ℕ, ◌<◌, ◌≤◌, Bool, true, false, cond, List, [], ◌∷◌, length, Some, None, Ok, Err, Option, Result, ◌==◌, nat_lt, refl}
-use Rattle.std.proofs.Common.{sym, ap, ◌∙◌, arith}
-use Rattle.std.proofs.lemmas.Bool.{ltb-false, le-ltb, lt-ltb, eqb-true, eq-eqb, cond-true}
+use Rattle.std.specs.Prelude.{◌≡◌, ◌≢◌, ℕ, ◌<◌, ◌≤◌, Bool, true, false, cond, ◌||◌, List, [], ◌∷◌, length, Some, None, Ok, Err, Option, Result, option_map, ◌==◌, nat_lt, refl}
+use Rattle.std.proofs.Common.{sym, ap, ◌∙◌, ⊎_elim, arith}
+use Rattle.std.proofs.lemmas.Bool.{cases_lt, ltb-false, le-ltb, lt-ltb, eqb-true, eq-eqb, cond-true}
 use Rattle.fault.specs.declared.kinds.RecordFault.{RecordFault}
 use Rattle.fault.specs.declared.kinds.RecordFault.TheVariants.{Sheet}
 use Rattle.fault.specs.declared.kinds.SheetFault.TheVariants.{Unfinished}
 use Rattle.sheet.specs.declared.limited.Limited.{Limited}
-use Rattle.sheet.specs.Limits.{first_outside, refusal, judged, accepted, exactly}
+use Rattle.sheet.specs.Limits.{from_to, is_outside, first_outside, refusal, judged, accepted, exactly}
 
 -- every field is inside its limits
 abbrev pub Inside : List Limited → Type 0
 Inside [] = Unit {0}
 Inside (f ∷ fs) = (f.least ≤ f.value) × (f.value ≤ f.most) × Inside fs
 
--- a test that picks something else failed
-else_from_none : (b : Bool) (v : ℕ) (o : Option ℕ) → cond b (Some v) o ≡ None → (b ≡ false) × (o ≡ None)
-else_from_none true v o e = let z : ◌≡◌ {A = ℕ} 0 1 = cc in absurd (omega arith)
-else_from_none false v o e = (refl, e)
+-- the first of some fields is inside where no field is outside, and so are the others
+none_outside : (b : Bool) (f : Limited) (o : Option Limited) → option_map (λ (x : Limited). x.bit) (cond b (Some f) o) ≡ None → (b ≡ false) × (option_map (λ (x : Limited). x.bit) o ≡ None)
+none_outside true f o e = let z : ◌≡◌ {A = ℕ} 0 1 = cc in absurd (omega arith)
+none_outside false f o e = (refl, e)
+
+either-false : (a b : Bool) → (a || b) ≡ false → (a ≡ false) × (b ≡ false)
+either-false true b e = let z : ◌≡◌ {A = ℕ} 0 1 = cc in absurd (omega arith)
+either-false false b e = (refl, e)
 
 pub inside_from_none : (fs : List Limited) → first_outside fs ≡ None → Inside fs
 inside_from_none [] e = tt
 inside_from_none (f ∷ fs) e =
-    let low = else_from_none (nat_lt f.value f.least) f.bit _ e in
-    let high = else_from_none (nat_lt f.most f.value) f.bit _ low.1 in
-    (ltb-false f.value f.least low.0, ltb-false f.most f.value high.0, inside_from_none fs high.1)
+    let here = none_outside (is_outside f) f _ e in
+    let both = either-false (nat_lt f.value f.least) (nat_lt f.most f.value) here.0 in
+    (ltb-false f.value f.least both.0, ltb-false f.most f.value both.1, inside_from_none fs here.1)
 
 pub none_from_inside : (fs : List Limited) → Inside fs → first_outside fs ≡ None
 none_from_inside [] i = refl
@@ -84,14 +88,17 @@ reading_from {y = y} z k s j l zeros limits same e =
     let judgment = e ∙ (λ i. judged k (zeros i) (limits i)) in
     (λ i. accepted (judgment i) (same i)) ∙ sym (reading_judged y z k s _ l)
 
--- one field more is inside its limits
-pub outside_next :
-    (f : Limited) (fs : List Limited) → f.least ≤ f.value → f.value ≤ f.most → first_outside (f ∷ fs) ≡ first_outside fs
-outside_next f fs low high = rw (le-ltb f.value f.least low, le-ltb f.most f.value high)
-
 pub outside_below : (f : Limited) (fs : List Limited) → f.value < f.least → first_outside (f ∷ fs) ≡ Some f.bit
 outside_below f fs low = rw (lt-ltb f.value f.least low)
 
 pub outside_above :
     (f : Limited) (fs : List Limited) → f.least ≤ f.value → f.most < f.value → first_outside (f ∷ fs) ≡ Some f.bit
 outside_above f fs low high = rw (le-ltb f.value f.least low, lt-ltb f.most f.value high)
+
+-- a field that is not the one value that it may have
+pub outside_differs : (b v m : ℕ) (fs : List Limited) → v ≢ m → first_outside (from_to b v m m ∷ fs) ≡ Some b
+outside_differs b v m fs differ =
+    ⊎_elim
+    (λ (below : v < m). outside_below (from_to b v m m) fs below)
+    (λ (least : m ≤ v). let above : m < v = omega arith in outside_above (from_to b v m m) fs least above)
+    (cases_lt v m)

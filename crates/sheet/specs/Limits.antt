@@ -1,6 +1,6 @@
 -- How a record is judged: every field that must be zero first, then every field with limits, each in the order of its bits.
 -- Assumes nothing.
-use Rattle.std.specs.Prelude.{ℕ, cond, List, [], ◌∷◌, length, Some, None, Ok, Err, Option, Result, ◌==◌, nat_lt}
+use Rattle.std.specs.Prelude.{ℕ, Bool, ◌||◌, cond, List, length, find, Some, None, Ok, Err, Option, Result, option_map, ◌==◌, nat_lt}
 use Rattle.fault.specs.declared.kinds.RecordFault.{RecordFault}
 use Rattle.fault.specs.declared.kinds.RecordFault.TheVariants.{Sheet, NotZero, OutOfLimits}
 use Rattle.fault.specs.declared.kinds.SheetFault.TheVariants.{Unfinished}
@@ -14,12 +14,13 @@ from_to b v l m = record { bit = b; value = v; least = l; most = m }
 abbrev pub zero_at : ℕ → ℕ → Limited
 zero_at b v = from_to b v 0 0
 
+-- a field outside its limits
+abbrev pub is_outside : Limited → Bool
+is_outside f = nat_lt f.value f.least || nat_lt f.most f.value
+
 -- the first bit of the first field outside its limits
 abbrev pub first_outside : List Limited → Option ℕ
-first_outside [] = None
-first_outside (f ∷ fs) =
-    cond (nat_lt f.value f.least) (Some f.bit)
-    (cond (nat_lt f.most f.value) (Some f.bit) (first_outside fs))
+first_outside fs = option_map (λ f. f.bit) (find is_outside fs)
 
 -- record k with these first bits outside: what must be zero comes first
 abbrev pub refusal : ℕ → Option ℕ → Option ℕ → Result (Unit {0}) RecordFault

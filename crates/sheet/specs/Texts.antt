@@ -1,18 +1,16 @@
 -- The text that each record prints, in octets.
 -- Assumes nothing.
-use Rattle.std.specs.Prelude.{ℕ, List, [], ◌∷◌, ◌++◌, take, codes, decimal}
+use Rattle.std.specs.Prelude.{ℕ, List, [], ◌∷◌, ◌++◌, take, Some, None, Option, codes, decimal}
 use Rattle.sheet.specs.declared.flow.FlowRecord.{FlowRecord}
-use Rattle.sheet.specs.declared.flow.Start.{Start}
-use Rattle.sheet.specs.declared.flow.Start.TheVariants.{Chosen, Free}
 use Rattle.sheet.specs.declared.gate.GateRecord.{GateRecord}
 use Rattle.sheet.specs.declared.gate.GateState.{GateState}
 use Rattle.sheet.specs.declared.gate.GateState.TheVariants.{Scheduled, BestEffort, Closed}
 use Rattle.sheet.specs.declared.port.PortRecord.{PortRecord}
 
 -- a start: free, or its instant
-abbrev pub start_text : Start → List ℕ
-start_text (Chosen v) = decimal v ++ codes " ns"
-start_text Free = codes "free"
+abbrev pub start_text : Option ℕ → List ℕ
+start_text (Some v) = decimal v ++ codes " ns"
+start_text None = codes "free"
 
 -- ports, each behind a space
 abbrev pub route_text : List ℕ → List ℕ

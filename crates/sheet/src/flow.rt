@@ -1,67 +1,19 @@
 // The flow record: a flow's number, frame length, period, deadline, start and route.
-ghost use Rattle.std.specs.Prelude.{◌≡◌, ◌+◌, ◌*◌, ◌^◌, ◌<◌, length, take};
+ghost use Rattle.std.specs.Prelude.{◌≡◌, ◌+◌, ◌*◌, ◌^◌, ◌<◌, length, take, None};
 ghost use Rattle.sheet.specs.Fields.{field as field_of, packed, Fit};
 ghost use Rattle.sheet.specs.Limits.{from_to, zero_at};
-ghost use Rattle.sheet.specs.Flows.{chosen_bit, start_field, start_of, idle_start, flow_of, used as used_slot, unused as unused_slot, flow_zeros, flow_limits, head_parts, route_parts, read_flow, judge_flow, written_flow};
+ghost use Rattle.sheet.specs.Flows.{hop_count, port_slots, flow_of, used as used_slot, unused as unused_slot, flow_zeros, flow_limits, head_parts, route_parts, read_flow, judge_flow, written_flow};
 ghost use Rattle.sheet.specs.FlowsLemmas.{flow-readback, flow-writable, flow-rewritten};
 ghost use Rattle.std.proofs.Common.{rules};
 
 use crate::field::field;
 use crate::kind::RecordKind;
 use crate::limited::{Limited, judge};
-use fault::{PlanFault, RecordFault, SheetFault};
-
-// The first instant of a flow's first frame.
-#[derive(Clone, Copy, PartialEq, Eq, Debug)]
-pub enum Start {
-    Chosen(u32),
-    // Left to the planner.
-    Free,
-}
-
-impl Start {
-    // The start of the bit "start chosen" and the start field.
-    fn new(chosen: u32, value: u32) -> Start
-        ensures value { result ≡ start_of chosen value }
-    {
-        if chosen == 1 {
-            Start::Chosen(value)
-        } else {
-            Start::Free
-        }
-    }
-
-    // The bit "start chosen".
-    fn chosen(self) -> u8
-        ensures value { result ≡ chosen_bit self }
-    {
-        match self {
-            Start::Chosen(_) => 1,
-            Start::Free => 0,
-        }
-    }
-
-    // The start field.
-    fn field(self) -> u32
-        ensures value { result ≡ start_field self }
-    {
-        match self {
-            Start::Chosen(value) => value,
-            Start::Free => 0,
-        }
-    }
-}
-
-// What the start field holds where the start is not chosen.
-fn idle(chosen: u32, value: u32) -> u32
-    ensures value { result ≡ idle_start chosen value }
-{
-    if chosen == 1 { 0 } else { value }
-}
+use fault::{RecordFault, SheetFault};
+use std::array;
 
 // A slot of the route.
-fn port(octets: &[u8], slot: usize) -> u8
-    requires whole { length octets.now ≡ 21 }
+fn port(octets: &[u8; 21], slot: usize) -> u8
     requires slot { slot < 8 }
     ensures value { result ≡ field_of 21 (125 + 5 * slot) 5 octets.now }
 {
@@ -74,12 +26,34 @@ pub struct FlowRecord {
     pub length: u16,
     pub period: u32,
     pub deadline: u32,
-    pub start: Start,
+    // The chosen start, or none where it is left to the planner.
+    pub start: Option<u32>,
     pub hops: u8,
     pub ports: [u8; 8],
 }
 
 impl FlowRecord {
+    // A record with no start chosen. A route of more than eight ports has the hop count nine, which is refused.
+    pub fn new(number: u16, length: u16, period: u32, deadline: u32, route: &[u8]) -> FlowRecord
+        ensures number { result.number ≡ number }
+        ensures length { result.length ≡ length }
+        ensures period { result.period ≡ period }
+        ensures deadline { result.deadline ≡ deadline }
+        ensures free { result.start ≡ None }
+        ensures hops { result.hops ≡ hop_count route.now }
+        ensures ports { result.ports ≡ port_slots route.now }
+    {
+        FlowRecord {
+            number,
+            length,
+            period,
+            deadline,
+            start: None,
+            hops: route.len().min(9) as u8,
+            ports: array::from_fn(|slot| route.get(slot).copied().unwrap_or(0)),
+        }
+    }
+
     // The ports before the hop count.
     pub fn route(&self) -> &[u8]
         ensures value { result.now ≡ take self.now.hops self.now.ports }
@@ -89,27 +63,18 @@ impl FlowRecord {
     }
 
     // The record that 21 octets hold, whatever its values.
-    fn from_octets(octets: &[u8]) -> FlowRecord
-        requires whole { length octets.now ≡ 21 }
+    fn from_octets(octets: &[u8; 21]) -> FlowRecord
         ensures value { result ≡ flow_of octets.now }
     {
+        let chosen = field(octets, 90, 1) == 1;
         FlowRecord {
             number: field(octets, 0, 16) as u16,
             length: field(octets, 16, 14) as u16,
             period: field(octets, 30, 30),
             deadline: field(octets, 60, 30),
-            start: Start::new(field(octets, 90, 1), field(octets, 91, 30)),
+            start: chosen.then_some(field(octets, 91, 30)),
             hops: field(octets, 121, 4) as u8,
-            ports: [
-                port(octets, 0),
-                port(octets, 1),
-                port(octets, 2),
-                port(octets, 3),
-                port(octets, 4),
-                port(octets, 5),
-                port(octets, 6),
-                port(octets, 7),
-            ],
+            ports: array::from_fn(|slot| port(octets, slot)),
         }
     }
 
@@ -167,7 +132,7 @@ impl FlowRecord {
             Limited::new(16, u32::from(self.length), 64, 9_600),
             Limited::new(30, self.period, 1, 1_000_000_000),
             Limited::new(60, self.deadline, 1, 1_000_000_000),
-            Limited::new(91, self.start.field(), 0, 999_999_999),
+            Limited::new(91, self.start.unwrap_or(0), 0, 999_999_999),
             Limited::new(121, u32::from(self.hops), 1, 8),
             self.used(0),
             self.used(1),
@@ -203,8 +168,8 @@ impl FlowRecord {
         let length = u128::from(self.length) << 95;
         let period = u128::from(self.period) << 65;
         let deadline = u128::from(self.deadline) << 35;
-        let chosen = u128::from(self.start.chosen()) << 34;
-        let start = u128::from(self.start.field()) << 4;
+        let chosen = u128::from(self.start.is_some()) << 34;
+        let start = u128::from(self.start.unwrap_or(0)) << 4;
         number + length + period + deadline + chosen + start + u128::from(self.hops)
     }
 
@@ -250,13 +215,16 @@ impl RecordKind for FlowRecord {
     }
 
     fn read(index: usize, octets: &[u8]) -> Result<FlowRecord, RecordFault> {
-        if octets.len() != Self::SIZE {
+        let Ok(octets) = <&[u8; 21]>::try_from(octets) else {
             return Err(RecordFault::Sheet(SheetFault::Unfinished { index }));
-        }
+        };
         let record = FlowRecord::from_octets(octets);
-        let start = idle(field(octets, 90, 1), field(octets, 91, 30));
+        let idle = match record.start {
+            Some(_) => 0,
+            None => field(octets, 91, 30),
+        };
         let spare = field(octets, 165, 3);
-        judge(index, &record.zeros(start, spare), &record.limits())?;
+        judge(index, &record.zeros(idle, spare), &record.limits())?;
         Ok(record)
     }
 
@@ -264,12 +232,7 @@ impl RecordKind for FlowRecord {
         judge(index, &self.zeros(0, 0), &self.limits())
     }
 
-    fn write(&self, buffer: &mut [u8]) -> Result<(), PlanFault> {
-        self.judge(0)?;
-        if buffer.len() < Self::SIZE {
-            return Err(PlanFault::Buffer);
-        }
+    fn put(&self, buffer: &mut [u8]) {
         buffer[0..21].copy_from_slice(&self.to_octets());
-        Ok(())
     }
 }

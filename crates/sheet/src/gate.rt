@@ -1,12 +1,12 @@
 // The gate record: the state of a port's gates and how long it lasts.
 ghost use Rattle.std.specs.Prelude.{◌≡◌};
-ghost use Rattle.sheet.specs.Gates.{octet_of, state_of, gate_limits, read_gate, judge_gate, written_gate};
+ghost use Rattle.sheet.specs.Gates.{octet_of, IsStateOf, read_gate, judge_gate, written_gate};
 ghost use Rattle.sheet.specs.GatesLemmas.{gate-readback, gate-writable, gate-rewritten};
 ghost use Rattle.std.proofs.Common.{rules};
 
 use crate::kind::RecordKind;
 use crate::limited::{Limited, judge};
-use fault::{PlanFault, RecordFault, SheetFault};
+use fault::{RecordFault, SheetFault};
 
 // Which traffic classes are open.
 #[derive(Clone, Copy, PartialEq, Eq, Debug)]
@@ -19,25 +19,33 @@ pub enum GateState {
     Closed,
 }
 
-impl GateState {
-    pub fn octet(self) -> u8
-        ensures value { result ≡ octet_of self }
-    {
-        match self {
+impl From<GateState> for u8 {
+    ghost from_gives = { λ state octet. octet ≡ octet_of state };
+
+    fn from(state: GateState) -> u8 {
+        match state {
             GateState::Scheduled => 0x80,
             GateState::BestEffort => 0x7f,
             GateState::Closed => 0x00,
         }
     }
+}
 
-    // The state of an octet that is one of the three.
-    fn from_octet(octet: u8) -> GateState
-        ensures value { result ≡ state_of octet }
-    {
+// An octet that is none of a state.
+#[derive(Clone, Copy, PartialEq, Eq, Debug)]
+pub struct UnknownState(pub u8);
+
+impl TryFrom<u8> for GateState {
+    type Error = UnknownState;
+
+    ghost try_from_gives = { IsStateOf };
+
+    fn try_from(octet: u8) -> Result<GateState, UnknownState> {
         match octet {
-            0x80 => GateState::Scheduled,
-            0x7f => GateState::BestEffort,
-            _ => GateState::Closed,
+            0x80 => Ok(GateState::Scheduled),
+            0x7f => Ok(GateState::BestEffort),
+            0x00 => Ok(GateState::Closed),
+            _ => Err(UnknownState(octet)),
         }
     }
 }
@@ -46,19 +54,6 @@ impl GateState {
 pub struct GateRecord {
     pub state: GateState,
     pub duration: u32,
-}
-
-impl GateRecord {
-    // The limits, where the state was read from this octet.
-    fn limits(&self, octet: u8) -> [Limited; 2]
-        ensures value { result ≡ gate_limits octet self.now }
-    {
-        let state = u32::from(self.state.octet());
-        [
-            Limited::new(0, u32::from(octet), state, state),
-            Limited::new(10, self.duration, 1, 1_000_000_000),
-        ]
-    }
 }
 
 impl RecordKind for GateRecord {
@@ -91,26 +86,30 @@ impl RecordKind for GateRecord {
             return Err(RecordFault::Sheet(SheetFault::Unfinished { index }));
         };
         let word = u32::from_be_bytes([*a, *b, *c, *d]);
-        let record = GateRecord {
-            state: GateState::from_octet(*state),
-            duration: word % (1 << 30),
+        if word >> 30 != 0 {
+            return Err(RecordFault::NotZero { index, bit: 8 });
+        }
+        let Ok(state) = GateState::try_from(*state) else {
+            return Err(RecordFault::OutOfLimits { index, bit: 0 });
         };
-        let spare = Limited::zero(8, word >> 30);
-        judge(index, &[spare], &record.limits(*state))?;
+        let record = GateRecord {
+            state,
+            duration: word,
+        };
+        record.judge(index)?;
         Ok(record)
     }
 
     fn judge(&self, index: usize) -> Result<(), RecordFault> {
-        judge(index, &[], &self.limits(self.state.octet()))
+        judge(
+            index,
+            &[],
+            &[Limited::new(10, self.duration, 1, 1_000_000_000)],
+        )
     }
 
-    fn write(&self, buffer: &mut [u8]) -> Result<(), PlanFault> {
-        self.judge(0)?;
-        if buffer.len() < Self::SIZE {
-            return Err(PlanFault::Buffer);
-        }
+    fn put(&self, buffer: &mut [u8]) {
         let [a, b, c, d] = self.duration.to_be_bytes();
-        buffer[0..5].copy_from_slice(&[self.state.octet(), a, b, c, d]);
-        Ok(())
+        buffer[0..5].copy_from_slice(&[self.state.into(), a, b, c, d]);
     }
 }

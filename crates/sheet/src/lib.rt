@@ -11,8 +11,8 @@ mod reader;
 mod text;
 mod writer;
 
-pub use flow::{FlowRecord, Start};
-pub use gate::{GateRecord, GateState};
+pub use flow::FlowRecord;
+pub use gate::{GateRecord, GateState, UnknownState};
 pub use kind::RecordKind;
 pub use port::PortRecord;
 pub use reader::{Reader, whole_records};

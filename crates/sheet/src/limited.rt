@@ -1,6 +1,6 @@
 // A field with its limits, and the judgment of a record by its fields.
 ghost use Rattle.std.specs.Prelude.{◌≡◌};
-ghost use Rattle.sheet.specs.Limits.{from_to, zero_at, first_outside, judged};
+ghost use Rattle.sheet.specs.Limits.{from_to, zero_at, is_outside, first_outside, judged};
 
 use fault::RecordFault;
 
@@ -36,18 +36,22 @@ impl Limited {
             most: 0,
         }
     }
+
+    fn is_outside(&self) -> bool
+        ensures value { result ≡ is_outside self.now }
+    {
+        self.value < self.least || self.value > self.most
+    }
 }
 
 // The first bit of the first field outside its limits.
 fn outside(fields: &[Limited]) -> Option<u16>
     ensures value { result ≡ first_outside fields.now }
 {
-    for field in fields {
-        if field.value < field.least || field.value > field.most {
-            return Some(field.bit);
-        }
-    }
-    None
+    fields
+        .iter()
+        .find(|field| field.is_outside())
+        .map(|field| field.bit)
 }
 
 // Whether record `index` is accepted: the fields that must be zero come first.

@@ -1,13 +1,13 @@
 // The port record: the propagation delay of a port, the processing delay at the node that it leads to, and its largest best-effort length.
-ghost use Rattle.std.specs.Prelude.{◌≡◌, length};
-ghost use Rattle.sheet.specs.Ports.{port_of, port_spare, port_limits, read_port, judge_port, written_port};
+ghost use Rattle.std.specs.Prelude.{◌≡◌};
+ghost use Rattle.sheet.specs.Ports.{port_of, port_limits, read_port, judge_port, written_port};
 ghost use Rattle.sheet.specs.PortsLemmas.{port-readback, port-writable, port-rewritten};
 ghost use Rattle.std.proofs.Common.{rules};
 
 use crate::field::field;
 use crate::kind::RecordKind;
 use crate::limited::{Limited, judge};
-use fault::{PlanFault, RecordFault, SheetFault};
+use fault::{RecordFault, SheetFault};
 
 #[derive(Clone, Copy, PartialEq, Eq, Debug)]
 pub struct PortRecord {
@@ -18,8 +18,7 @@ pub struct PortRecord {
 
 impl PortRecord {
     // The record that eight octets hold, whatever its values.
-    fn from_octets(octets: &[u8]) -> PortRecord
-        requires whole { length octets.now ≡ 8 }
+    fn from_octets(octets: &[u8; 8]) -> PortRecord
         ensures value { result ≡ port_of octets.now }
     {
         PortRecord {
@@ -27,13 +26,6 @@ impl PortRecord {
             processing: field(octets, 17, 20),
             best_effort: field(octets, 37, 14) as u16,
         }
-    }
-
-    fn spare(octets: &[u8]) -> [Limited; 1]
-        requires whole { length octets.now ≡ 8 }
-        ensures value { result ≡ port_spare octets.now }
-    {
-        [Limited::zero(51, field(octets, 51, 13))]
     }
 
     fn limits(&self) -> [Limited; 3]
@@ -73,11 +65,12 @@ impl RecordKind for PortRecord {
     }
 
     fn read(index: usize, octets: &[u8]) -> Result<PortRecord, RecordFault> {
-        if octets.len() != Self::SIZE {
+        let Ok(octets) = <&[u8; 8]>::try_from(octets) else {
             return Err(RecordFault::Sheet(SheetFault::Unfinished { index }));
-        }
+        };
         let record = PortRecord::from_octets(octets);
-        judge(index, &PortRecord::spare(octets), &record.limits())?;
+        let spare = Limited::zero(51, field(octets, 51, 13));
+        judge(index, &[spare], &record.limits())?;
         Ok(record)
     }
 
@@ -85,16 +78,11 @@ impl RecordKind for PortRecord {
         judge(index, &[], &self.limits())
     }
 
-    fn write(&self, buffer: &mut [u8]) -> Result<(), PlanFault> {
-        self.judge(0)?;
-        if buffer.len() < Self::SIZE {
-            return Err(PlanFault::Buffer);
-        }
+    fn put(&self, buffer: &mut [u8]) {
         let delay = u64::from(self.delay) << 47;
         let processing = u64::from(self.processing) << 27;
         let best_effort = u64::from(self.best_effort) << 13;
         let octets = (delay + processing + best_effort).to_be_bytes();
         buffer[0..8].copy_from_slice(&octets);
-        Ok(())
     }
 }

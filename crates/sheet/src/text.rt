@@ -3,18 +3,22 @@ ghost use Rattle.std.specs.Prelude.{◌≡◌, Some};
 ghost use Rattle.std.specs.Fmt.{WritesOnOk};
 ghost use Rattle.sheet.specs.Texts.{start_text, route_text, flow_text, state_text, gate_text, port_text};
 
-use crate::flow::{FlowRecord, Start};
+use crate::flow::FlowRecord;
 use crate::gate::{GateRecord, GateState};
 use crate::port::PortRecord;
 use std::fmt;
 
+// A start in readable text.
+#[derive(Clone, Copy)]
+struct Start(Option<u32>);
+
 impl fmt::Display for Start {
-    ghost output = { λ x. Some (start_text x) };
+    ghost output = { λ x. Some (start_text x.0) };
 
     fn fmt<W: fmt::Write>(&self, f: &mut fmt::Formatter<W>) -> fmt::Result {
-        match *self {
-            Start::Chosen(instant) => write!(f, "{instant} ns"),
-            Start::Free => f.write_str("free"),
+        match self.0 {
+            Some(instant) => write!(f, "{instant} ns"),
+            None => f.write_str("free"),
         }
     }
 }
@@ -24,8 +28,7 @@ fn write_route<W: fmt::Write>(f: &mut fmt::Formatter<W>, ports: &[u8]) -> fmt::R
     ensures prints { WritesOnOk W.write_str_gives f.old result (route_text ports.now) f.new }
 {
     for port in ports {
-        let number = *port;
-        write!(f, " {number}")?;
+        write!(f, " {port}")?;
     }
     Ok(())
 }
@@ -34,29 +37,29 @@ impl fmt::Display for FlowRecord {
     ghost output = { λ x. Some (flow_text x) };
 
     fn fmt<W: fmt::Write>(&self, f: &mut fmt::Formatter<W>) -> fmt::Result {
-        let number = self.number;
-        let length = self.length;
-        let period = self.period;
-        let deadline = self.deadline;
-        let start = self.start;
         write!(
             f,
-            "flow {number}: length {length}, period {period} ns, deadline {deadline} ns, start {start}, route"
+            "flow {}: length {}, period {} ns, deadline {} ns, start {}, route",
+            self.number,
+            self.length,
+            self.period,
+            self.deadline,
+            Start(self.start)
         )?;
         write_route(f, self.route())
     }
 }
 
-impl GateState {
-    // The octet in hexadecimal.
-    fn text(self) -> &'static str
-        ensures value { result.now ≡ state_text self }
-    {
-        match self {
+// The octet in hexadecimal.
+impl fmt::Display for GateState {
+    ghost output = { λ x. Some (state_text x) };
+
+    fn fmt<W: fmt::Write>(&self, f: &mut fmt::Formatter<W>) -> fmt::Result {
+        f.write_str(match self {
             GateState::Scheduled => "80",
             GateState::BestEffort => "7F",
             GateState::Closed => "00",
-        }
+        })
     }
 }
 
@@ -64,9 +67,7 @@ impl fmt::Display for GateRecord {
     ghost output = { λ x. Some (gate_text x) };
 
     fn fmt<W: fmt::Write>(&self, f: &mut fmt::Formatter<W>) -> fmt::Result {
-        let state = self.state.text();
-        let duration = self.duration;
-        write!(f, "gates {state} for {duration} ns")
+        write!(f, "gates {} for {} ns", self.state, self.duration)
     }
 }
 
@@ -74,12 +75,10 @@ impl fmt::Display for PortRecord {
     ghost output = { λ x. Some (port_text x) };
 
     fn fmt<W: fmt::Write>(&self, f: &mut fmt::Formatter<W>) -> fmt::Result {
-        let delay = self.delay;
-        let processing = self.processing;
-        let best_effort = self.best_effort;
         write!(
             f,
-            "port: propagation {delay} ns, processing {processing} ns, best effort up to {best_effort} octets"
+            "port: propagation {} ns, processing {} ns, best effort up to {} octets",
+            self.delay, self.processing, self.best_effort
         )
     }
 }

@@ -17,29 +17,26 @@ fn judge_all<K: RecordKind>(records: &[K]) -> Result<(), RecordFault>
     Ok(())
 }
 
-// Writes a record that may be written to its place in a buffer that is long enough.
-fn put_record<K: RecordKind>(item: &K, index: usize, buffer: &mut [u8]) -> Result<(), PlanFault>
+// Puts a record that may be written to its place in a buffer that is long enough.
+fn put_record<K: RecordKind>(item: &K, index: usize, buffer: &mut [u8])
     requires judged { K.judging 0 item.now ≡ Ok tt }
     requires room { index * K.long + K.long ≤ length buffer.old }
-    ensures value { result ≡ Ok tt }
     ensures after { buffer.new ≡ take (index * K.long) buffer.old ++ (K.written item.now ++ drop (index * K.long + K.long) buffer.old) }
 {
     let size = K::octet_count();
     let first = index * size;
-    item.write(&mut buffer[first..first + size])
+    item.put(&mut buffer[first..first + size]);
 }
 
-// Writes records that may be written into a buffer that is long enough.
-fn put_records<K: RecordKind>(records: &[K], buffer: &mut [u8]) -> Result<(), PlanFault>
+// Puts records that may be written into a buffer that is long enough.
+fn put_records<K: RecordKind>(records: &[K], buffer: &mut [u8])
     requires judged { judge_from K.judging 0 records.now ≡ Ok tt }
     requires room { length records.now * K.long ≤ length buffer.old }
-    ensures value { result ≡ Ok tt }
     ensures after { buffer.new ≡ written_sheet K.written records.now ++ drop (length records.now * K.long) buffer.old }
 {
     for (index, record) in records.iter().enumerate() {
-        put_record(record, index, buffer)?;
+        put_record(record, index, buffer);
     }
-    Ok(())
 }
 
 // Writes the records, answers how many octets they take, and leaves the octets behind them as they were.
@@ -53,6 +50,6 @@ pub fn write_sheet<K: RecordKind>(records: &[K], buffer: &mut [u8]) -> Result<us
     if records.len() > buffer.len() / size {
         return Err(PlanFault::Buffer);
     }
-    put_records(records, buffer)?;
+    put_records(records, buffer);
     Ok(records.len() * size)
 }

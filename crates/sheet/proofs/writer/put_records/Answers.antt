@@ -1,4 +1,4 @@
-use Rattle.std.proofs.Common.{suc, ◌+◌, ◌≤◌, length, refl, mul-le-mul_right, arith}
+use Rattle.std.proofs.Common.{suc, ◌+◌, ◌≤◌, length, mul-le-mul_right, arith}
 use Rattle.sheet.proofs.Judgments.{judged-at}
 use Rattle.sheet.proofs.Placed.{place_more, place-all}
 use Rattle.sheet.proofs.writer.put_records.Goals as goal
@@ -24,7 +24,6 @@ loop-index-preserved g c =
 pub returns : goal.returns
 returns g c =
     record {
-      value = refl;
       after =
           place-all g.K.RecordKind.long g.K.RecordKind.written g.met.K.RecordKind.whole c.args.records.now c.loop-index.index
           c.loop-index.buffer c.args.buffer.now c.loop-index-test.false c.loop-index.auto.index-end c.loop-index.invariant;
