@@ -6,8 +6,6 @@ use Rattle.fault.specs.declared.kinds.PlanFault.TheVariants.{Record, NotSetUp}
 use Rattle.fault.specs.declared.kinds.RecordFault.{RecordFault}
 use Rattle.line.specs.Meaning.{Rules}
 use Rattle.sheet.specs.declared.flow.FlowRecord.{FlowRecord}
-use Rattle.sheet.specs.declared.flow.Start.{Start}
-use Rattle.sheet.specs.declared.flow.Start.TheVariants.{Chosen, Free}
 use Rattle.sheet.specs.Flows.{read_flow}
 use Rattle.sheet.specs.Sheets.{read_at}
 use Rattle.planning.specs.Gates.{gates}
@@ -21,10 +19,6 @@ use Rattle.plan.specs.Promise.{Assured, Assures, AlwaysAssured, ListsFit, ListsA
 use Rattle.plan.specs.Steps.{after}
 use Rattle.plan.proofs.Records.{flow-recorded, read_at_ok}
 use Rattle.plan.proofs.Sound.{SoundHeld, SoundModel, after_sound}
-
--- the start that is chosen, where one is
-abbrev chosen-start : Start → Option ℕ
-chosen-start start = elim start [ Chosen s ↦ Some s | Free ↦ None ]
 
 -- a plan that is set up answers the offer of a record that it accepts
 offer-answered : (w : Wires) (m : Model) (c : Setup) (sheet : List ℕ) (k : ℕ) (x : FlowRecord) → m.setup ≡ Some c → read_at 21 read_flow k sheet ≡ Ok x →
@@ -46,8 +40,8 @@ assured w rules m c ready accepted keeps =
       accepted = accepted;
       runs = promise.runs;
       answers = λ sheet k x. offer-answered w m c sheet k x ready;
-      chosen = λ sheet k x s read chosen. promise.chosen (offered x) s (recorded k sheet x read) (ap chosen-start chosen);
-      free = λ sheet k x read free. promise.free (offered x) (recorded k sheet x read) (ap chosen-start free);
+      chosen = λ sheet k x s read chosen. promise.chosen (offered x) s (recorded k sheet x read) chosen;
+      free = λ sheet k x read free. promise.free (offered x) (recorded k sheet x read) free;
     }
 
 sound_assures : (w : Wires) → Rules w.most w.meaning → (m : Model) → SoundModel w m → Assures w m

@@ -56,7 +56,7 @@ best-least k s x e =
 -- a flow record is within the limits that its offer needs
 pub flow_limited : (k : ℕ) (s : List ℕ) (x : FlowRecord) → read_flow k s ≡ Ok x → Limited x
 flow_limited k s x e =
-    let read = read_from_accepted 21 k s (flow_zeros (idle_start (field 21 90 1 s) (field 21 91 30 s)) (field 21 165 3 s) (flow_of s)) (flow_limits (flow_of s)) e in
+    let read = read_from_accepted 21 k s (flow_zeros (idle_start (flow_of s).start (field 21 91 30 s)) (field 21 165 3 s) (flow_of s)) (flow_limits (flow_of s)) e in
     let limits = read.clean.limits_inside in
     subst Limited read.same
     (record {

@@ -5,8 +5,6 @@ use Rattle.fault.specs.declared.kinds.PlanFault.{PlanFault}
 use Rattle.fault.specs.declared.kinds.PlanFault.TheVariants.{Record, SetUpTwice, NotSetUp, Cycle, PortCount, BestEffort, NotHeld}
 use Rattle.line.specs.Meaning.{Meaning}
 use Rattle.sheet.specs.declared.flow.FlowRecord.{FlowRecord}
-use Rattle.sheet.specs.declared.flow.Start.{Start}
-use Rattle.sheet.specs.declared.flow.Start.TheVariants.{Chosen, Free}
 use Rattle.sheet.specs.declared.port.PortRecord.{PortRecord}
 use Rattle.sheet.specs.Flows.{read_flow}
 use Rattle.sheet.specs.Ports.{read_port}
@@ -34,11 +32,6 @@ empty = record { setup = None; held = [] }
 abbrev pub port : PortRecord → Port
 port x = record { delay = x.delay; processing = x.processing; best = x.best_effort }
 
--- the start that is chosen, if one is
-abbrev pub chosen : Start → Option ℕ
-chosen (Chosen s) = Some s
-chosen Free = None
-
 -- the flow that a flow record offers
 abbrev pub offered : FlowRecord → Offered
 offered x = record {
@@ -46,7 +39,7 @@ offered x = record {
   length = x.length;
   period = x.period;
   deadline = x.deadline;
-  chosen = chosen x.start;
+  chosen = x.start;
   route = take x.hops x.ports;
 }
 

@@ -3,7 +3,6 @@
 use Rattle.std.specs.Prelude.{◌≡◌, ℕ, ◌<◌, ◌≤◌, List, [], length, Some, None, Ok}
 use Rattle.line.specs.Meaning.{Rules}
 use Rattle.sheet.specs.declared.flow.FlowRecord.{FlowRecord}
-use Rattle.sheet.specs.declared.flow.Start.TheVariants.{Chosen, Free}
 use Rattle.sheet.specs.Flows.{read_flow}
 use Rattle.sheet.specs.Sheets.{read_at}
 use Rattle.planning.specs.Gates.{gates}
@@ -24,9 +23,9 @@ pub record Assured (w : Wires) (m : Model) (c : Setup) : Type 0 where
   pub runs : NoneWaits (network w.meaning c) m.held
   pub answers : (sheet : List ℕ) (k : ℕ) (x : FlowRecord) → read_at 21 read_flow k sheet ≡ Ok x →
       offer_answer w m sheet k ≡ answer (network w.meaning c) w.most m.held (offered x)
-  pub chosen : (sheet : List ℕ) (k : ℕ) (x : FlowRecord) (s : ℕ) → read_at 21 read_flow k sheet ≡ Ok x → x.start ≡ Chosen s → s < x.period →
+  pub chosen : (sheet : List ℕ) (k : ℕ) (x : FlowRecord) (s : ℕ) → read_at 21 read_flow k sheet ≡ Ok x → x.start ≡ Some s → s < x.period →
       refusal (network w.meaning c) w.most m.held (offered x) ≡ None → ChosenExactly (network w.meaning c) w.most m.held (offered x) s
-  pub free : (sheet : List ℕ) (k : ℕ) (x : FlowRecord) → read_at 21 read_flow k sheet ≡ Ok x → x.start ≡ Free →
+  pub free : (sheet : List ℕ) (k : ℕ) (x : FlowRecord) → read_at 21 read_flow k sheet ≡ Ok x → x.start ≡ None →
       refusal (network w.meaning c) w.most m.held (offered x) ≡ None → EarliestExactly (network w.meaning c) w.most m.held (offered x)
 
 -- what a plan holds is assured; one that is not set up holds no flow

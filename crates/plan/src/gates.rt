@@ -138,7 +138,7 @@ fn stretch(rows: &[Row], port: u8, cycle: u32, guard: u32, place: u32) -> GateRe
     let mut found = state_at(rows, port, cycle, guard, place);
     while place + found.duration < cycle {
         let more = state_at(rows, port, cycle, guard, place + found.duration);
-        if more.state.octet() != found.state.octet() {
+        if more.state != found.state {
             return found;
         }
         found.duration += more.duration;

@@ -1,7 +1,7 @@
 // The row of an offered flow, and its start beside the held ones.
 ghost use Rattle.std.specs.Prelude.{◌≡◌, Some, Ok, Err};
 ghost use Rattle.planning.specs.Offers.{placed, unfit, flow as offered_flow};
-ghost use Rattle.plan.specs.Calls.{chosen, offered};
+ghost use Rattle.plan.specs.Calls.{offered};
 ghost use Rattle.plan.specs.Offers.{Limited, Made};
 ghost use Rattle.plan.specs.Rows.{flow as row_flow, flows, Kept, AllKept};
 ghost use Rattle.plan.specs.Timings.{network};
@@ -12,7 +12,7 @@ use crate::row::{Row, State};
 use crate::setup::Setup;
 use fault::PlanFault;
 use line::Line;
-use sheet::{FlowRecord, Start};
+use sheet::FlowRecord;
 
 // The row of a flow record with start 0, or the first refusal that concerns its figures.
 pub(crate) fn made<L: Line>(line: &L, setup: &Setup, flow: &FlowRecord) -> Result<Row, PlanFault>
@@ -35,13 +35,13 @@ pub(crate) fn made<L: Line>(line: &L, setup: &Setup, flow: &FlowRecord) -> Resul
 }
 
 // The start of the flow of a row beside the held ones: the chosen one, or the earliest.
-pub(crate) fn start_beside(rows: &[Row], row: &Row, start: Start) -> Result<u32, PlanFault>
+pub(crate) fn start_beside(rows: &[Row], row: &Row, start: Option<u32>) -> Result<u32, PlanFault>
     requires kept { AllKept rows.now }
     requires row_kept { Kept row.now }
-    ensures value { result ≡ placed (flows rows.now) (chosen start) (row_flow row.now) }
+    ensures value { result ≡ placed (flows rows.now) start (row_flow row.now) }
 {
     match start {
-        Start::Chosen(s) => {
+        Some(s) => {
             if s >= row.period {
                 return Err(PlanFault::Start);
             }
@@ -52,7 +52,7 @@ pub(crate) fn start_beside(rows: &[Row], row: &Row, start: Start) -> Result<u32,
                 Err(PlanFault::Taken)
             }
         }
-        Start::Free => match earliest(rows, row) {
+        None => match earliest(rows, row) {
             Some(s) => Ok(s),
             None => Err(PlanFault::NoStart),
         },

@@ -4,7 +4,7 @@ use Rattle.std.proofs.lemmas.Result.{err_from_is_err_and}
 use Rattle.network.specs.Flows.{Flow}
 use Rattle.network.specs.Overlap.{starting}
 use Rattle.planning.specs.Offers.{placed}
-use Rattle.plan.specs.Calls.{chosen, offered}
+use Rattle.plan.specs.Calls.{offered}
 use Rattle.plan.specs.Rows.{flow, flows}
 use Rattle.plan.specs.Timings.{network}
 use Rattle.plan.proofs.Held.{held-some, room-left}
@@ -63,7 +63,7 @@ returns g c =
     let value = c.in_ok-start.ensures.value in
     let done = answer-placed net g.L.Line.most (flows plan.rows) x fresh (room-left plan.rows _ plan.long free.0 free.1) made.passes in
     let at = ap (λ (f : Flow). placed (flows plan.rows) x.chosen f) made.flow in
-    let fitting = placed-fits (flows plan.rows) (chosen c.args.flow.now.start) (flow row) s (sym value) in
+    let fitting = placed-fits (flows plan.rows) c.args.flow.now.start (flow row) s (sym value) in
     let kept = made.kept in
     record {
       placed = record {
