@@ -1,12 +1,7 @@
 -- The judgment of a list of records, record by record.
-use Rattle.std.proofs.Common.{◌≡◌, ℕ, zero, suc, ◌+◌, ◌<◌, ◌≤◌, List, [], ◌∷◌, length, get_or, drop, Ok, Err, Result, sym, refl, ap, ◌∙◌, add-one, arith}
-use Rattle.std.proofs.lemmas.List.{drop_more, drop_all}
+use Rattle.std.proofs.Common.{◌≡◌, ℕ, zero, suc, ◌+◌, ◌<◌, List, [], ◌∷◌, length, get_or, Ok, Err, Result, refl, arith}
 use Rattle.fault.specs.declared.kinds.RecordFault.{RecordFault}
 use Rattle.sheet.specs.Sheets.{and_then, judge_from}
-
--- a list from the index of an element on
-pub drop_element : {R : Type 0} (xs : List R) (i : ℕ) (x : R) → x ≡ get_or xs i x → i < length xs → drop i xs ≡ x ∷ drop (i + 1) xs
-drop_element xs i x is h = drop_more xs i x h ∙ ap (λ y. y ∷ drop (i + 1) xs) (sym is)
 
 -- both judgments are without a fault
 pub ok-from_and-then :
@@ -15,17 +10,6 @@ ok-from_and-then (Ok tt) b e = (refl, e)
 ok-from_and-then (Err f) b e = let u : ◌≡◌ {A = ℕ} 0 1 = cc in absurd (omega arith)
 
 module _ {R : Type 0} (judging : ℕ → R → Result (Unit {0}) RecordFault) where
-  -- the record at an index, then the rest
-  pub judge-step :
-      (xs : List R) (i : ℕ) (x : R) → x ≡ get_or xs i x → i < length xs
-      → judge_from judging i (drop i xs) ≡ and_then (judging i x) (judge_from judging (i + 1) (drop (i + 1) xs))
-  judge-step xs i x is h =
-      ap (judge_from judging i) (drop_element xs i x is h)
-      ∙ ap (λ (k : ℕ). and_then (judging i x) (judge_from judging k (drop (i + 1) xs))) (sym (add-one i))
-
-  pub judge_end : (xs : List R) (i : ℕ) → length xs ≤ i → judge_from judging i (drop i xs) ≡ Ok tt
-  judge_end xs i h = ap (judge_from judging i) (drop_all i xs h)
-
   -- in a list that may be written each record may be
   pub judged-at :
       (xs : List R) (k i : ℕ) (x : R) → x ≡ get_or xs i x → i < length xs → judge_from judging k xs ≡ Ok tt → judging (k + i) x ≡ Ok tt

@@ -5,4 +5,3 @@ pub mod RoundTrips
 pub mod Routes
 pub mod Sheets
 pub mod Texts
-pub mod Writings

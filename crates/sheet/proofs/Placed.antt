@@ -1,22 +1,7 @@
 -- Records placed in a buffer one behind the other.
-use Rattle.std.proofs.Common.{◌≡◌, ℕ, ◌+◌, ◌-◌, ◌*◌, ◌<◌, ◌≤◌, List, [], ◌∷◌, ◌++◌, length, get_or, take, drop, sym, ap, ◌∙◌, arith, length-append, length-take}
-use borrow.Rule.Slice.PartMut.{put_mid}
-use Rattle.std.proofs.lemmas.List.{append-nil, append_assoc, take_at, drop_at, drop_all, drop-drop, take_more, take_all}
+use Rattle.std.proofs.Common.{◌≡◌, ℕ, ◌+◌, ◌*◌, ◌<◌, List, [], ◌∷◌, ◌++◌, length, get_or, take, drop, sym, ap, ◌∙◌, arith, length-append, length-take}
+use Rattle.std.proofs.lemmas.List.{append-nil, append_assoc, take_at, drop_at, drop-drop, take_more}
 use Rattle.sheet.specs.Sheets.{written_sheet}
-
--- what a buffer holds after a writing to the z octets from a on
-pub put_mid-part :
-    (a z : ℕ) (buffer w part : List ℕ) → part ≡ w ++ drop z (take (a + z - a) (drop a buffer))
-    → put_mid a (a + z - a) buffer part ≡ take a buffer ++ (w ++ drop (a + z) buffer)
-put_mid-part a z buffer w part e =
-    let size : a + z - a ≡ z = omega arith in
-    let short : length (take z (drop a buffer)) ≤ z = simp length-take (omega arith) in
-    let none = drop_all z (take z (drop a buffer)) short in
-    let same : part ≡ w
-    = e ∙ ap (λ (n : ℕ). w ++ drop z (take n (drop a buffer))) size ∙ ap (λ (l : List ℕ). w ++ l) none ∙ append-nil w in
-    ap (λ (n : ℕ). put_mid a n buffer part) size
-    ∙ ap (λ (l : List ℕ). take a buffer ++ (l ++ drop z (drop a buffer))) same
-    ∙ ap (λ (l : List ℕ). take a buffer ++ (w ++ l)) (drop-drop z a buffer)
 
 module _ {R : Type 0} (z : ℕ) (written : R → List ℕ) (whole : (x : R) → length (written x) ≡ z) where
   pub length-written_sheet : (xs : List R) → length (written_sheet written xs) ≡ length xs * z
@@ -68,11 +53,3 @@ module _ {R : Type 0} (z : ℕ) (written : R → List ℕ) (whole : (x : R) → 
 
       next : i * z + z ≡ (i + 1) * z
       next = omega arith
-
-  -- all records
-  pub place-all :
-      (xs : List R) (i : ℕ) (buffer old : List ℕ) → length xs ≤ i → i ≤ length xs
-      → buffer ≡ written_sheet written (take i xs) ++ drop (i * z) old → buffer ≡ written_sheet written xs ++ drop (length xs * z) old
-  place-all xs i buffer old low high before =
-      let e : i ≡ length xs = omega arith in
-      before ∙ (λ j. written_sheet written (take_all i xs low j) ++ drop (e j * z) old)

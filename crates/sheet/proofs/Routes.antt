@@ -1,10 +1,9 @@
 -- The route of a flow record: its port slots, packed.
-use Rattle.std.proofs.Common.{◌≡◌, ℕ, zero, suc, ◌+◌, ◌*◌, ◌^◌, ◌<◌, ◌≤◌, List, [], ◌∷◌, ◌++◌, length, get_or, take, refl, ap, ◌∙◌, arith, pow_mono}
+use Rattle.std.proofs.Common.{◌≡◌, ℕ, zero, suc, ◌+◌, ◌*◌, ◌^◌, ◌<◌, List, [], ◌∷◌, ◌++◌, length, get_or, take, refl, ap, ◌∙◌, arith}
 use Rattle.std.proofs.lemmas.Nat.{pow-add}
 use Rattle.std.proofs.lemmas.List.{take_more}
 use Rattle.sheet.specs.Fields.{Part, part, bits, packed, Fit}
 use Rattle.sheet.specs.Flows.{route_parts}
-use Rattle.sheet.specs.Elements.{listed}
 
 -- each port in five bits
 abbrev pub fives : List ℕ → List Part
@@ -28,9 +27,6 @@ pub fives_more :
     (ps : List ℕ) (i : ℕ) → i < length ps → packed (fives (take (i + 1) ps)) ≡ packed (fives (take i ps)) * 32 + get_or ps i 0
 fives_more ps i h = ap (λ (l : List ℕ). packed (fives l)) (take_more ps i 0 h) ∙ fives_push (take i ps) (get_or ps i 0)
 
-pub fives-route : (ps : List ℕ) → length ps ≡ 8 → fives ps ≡ route_parts ps
-fives-route ps l = ap fives (listed 8 ps l)
-
 -- each slot is below 32
 pub port-lt : (ps : List ℕ) (i : ℕ) → Fit (route_parts ps) → i < 8 → get_or ps i 0 < 32
 port-lt ps zero f h = f.0
@@ -48,11 +44,4 @@ pub slot_more : (i r p : ℕ) → r < 2 ^ (5 * i) → p < 32 → r * 32 + p < 2 
 slot_more i r p low top =
     let e : 5 * (i + 1) ≡ 5 * i + 5 = omega arith in
     let power = ap (λ (y : ℕ). 2 ^ y) e ∙ pow-add 2 (5 * i) 5 in
-    omega arith
-
--- eight slots are 40 bits
-pub route-fits : (i r : ℕ) → r < 2 ^ (5 * i) → i ≤ 8 → r < 2 ^ 40
-route-fits i r low few =
-    let k : 5 * i ≤ 40 = omega arith in
-    let p = pow_mono k in
     omega arith

@@ -2,7 +2,8 @@
 ghost use Rattle.std.specs.Prelude.{◌≡◌, ℕ, ◌+◌, ◌*◌, ◌≤◌, length};
 ghost use Rattle.sheet.specs.Fields.{number, field as field_of};
 
-// At most eight octets as one number, most significant octet first.
+// At most eight octets as one number, most significant octet first. A loop, since the bound of the number grows with each
+// octet, and a closure that a fold calls would owe its bound for any number that it is given.
 fn number_of(octets: &[u8]) -> u64
     requires few { length octets.now ≤ 8 }
     ensures value { result ≡ number octets.now }

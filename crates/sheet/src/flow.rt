@@ -105,7 +105,8 @@ impl FlowRecord {
         Limited::zero(125 + 5 * slot, u32::from(port))
     }
 
-    // What must be zero, with a start that is not chosen and the spare bits.
+    // What must be zero, with a start that is not chosen and the spare bits. This table and the next name each slot, so that
+    // they stand in the order of the bits as the format's own table does.
     fn zeros(&self, start: u32, spare: u32) -> [Limited; 10]
         ensures value { result ≡ flow_zeros start spare self.now }
         ensures slots { length self.now.ports ≡ 8 }
@@ -145,7 +146,7 @@ impl FlowRecord {
         ]
     }
 
-    // The 40 bits of the port slots.
+    // The 40 bits of the port slots: a loop for the reason that `number_of` is one.
     fn packed_route(&self) -> u64
         requires fits { Fit (route_parts self.now.ports) }
         ensures value { result ≡ packed (route_parts self.now.ports) }

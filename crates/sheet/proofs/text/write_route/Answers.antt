@@ -1,7 +1,5 @@
-use Rattle.std.proofs.Common.{refl, ap}
+use Rattle.std.proofs.Common.{refl}
 use Rattle.std.proofs.Output.{has_written_append, has_written_of_eq}
-use Rattle.std.proofs.lemmas.List.{take_all}
-use Rattle.sheet.specs.Texts.{route_text}
 use Rattle.sheet.proofs.Texts.{route_text_more}
 use Rattle.sheet.proofs.text.write_route.Goals as goal
 
@@ -11,13 +9,3 @@ loop-port-preserved g c plain =
     let here = c.in_ok-write.ensures.writes before.plain refl in
     let more = route_text_more c.args.ports.now c.loop-port.port-index c.loop-port-test.true in
     has_written_of_eq g.W.Write.write_str_gives _ _ _ _ more (has_written_append g.W.Write.write_str_gives _ _ _ _ _ before here)
-
-pub returns : goal.returns
-returns g c =
-    record {
-      prints =
-          λ plain ok.
-          has_written_of_eq g.W.Write.write_str_gives _ _ _ _
-          (ap route_text (take_all c.loop-port.port-index c.args.ports.now c.loop-port-test.false))
-          (c.loop-port.invariant plain);
-    }
