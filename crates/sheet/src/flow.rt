@@ -9,7 +9,7 @@ ghost use Rattle.std.proofs.Common.{rules};
 use crate::field::field;
 use crate::kind::RecordKind;
 use crate::limited::{Limited, judge};
-use fault::{RecordFault, SheetFault};
+use fault::{PlanFault, RecordFault, SheetFault};
 use std::array;
 
 // A slot of the route.
@@ -233,7 +233,9 @@ impl RecordKind for FlowRecord {
         judge(index, &self.zeros(0, 0), &self.limits())
     }
 
-    fn put(&self, buffer: &mut [u8]) {
+    fn write(&self, buffer: &mut [u8]) -> Result<(), PlanFault> {
+        self.may_write(buffer)?;
         buffer[0..21].copy_from_slice(&self.to_octets());
+        Ok(())
     }
 }

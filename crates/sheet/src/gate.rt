@@ -6,7 +6,7 @@ ghost use Rattle.std.proofs.Common.{rules};
 
 use crate::kind::RecordKind;
 use crate::limited::{Limited, judge};
-use fault::{RecordFault, SheetFault};
+use fault::{PlanFault, RecordFault, SheetFault};
 
 // Which traffic classes are open.
 #[derive(Clone, Copy, PartialEq, Eq, Debug)]
@@ -108,8 +108,10 @@ impl RecordKind for GateRecord {
         )
     }
 
-    fn put(&self, buffer: &mut [u8]) {
+    fn write(&self, buffer: &mut [u8]) -> Result<(), PlanFault> {
+        self.may_write(buffer)?;
         let [a, b, c, d] = self.duration.to_be_bytes();
         buffer[0..5].copy_from_slice(&[self.state.into(), a, b, c, d]);
+        Ok(())
     }
 }

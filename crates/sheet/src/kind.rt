@@ -1,8 +1,8 @@
 // What a kind of record is: its size, its reading and its writing, which undo each other.
-ghost use Rattle.std.specs.Prelude.{◌≡◌, ℕ, ◌<◌, ◌≤◌, ◌++◌, List, length, drop, Ok, Result};
+ghost use Rattle.std.specs.Prelude.{◌≡◌, ℕ, ◌<◌, ◌≤◌, List, length, Ok, OnOk, Result};
 ghost use Rattle.fault.specs.declared.kinds.RecordFault.{RecordFault as Refused};
 ghost use Rattle.sheet.specs.Fields.{Octets};
-ghost use Rattle.sheet.specs.Writings.{answered, put as put_by};
+ghost use Rattle.sheet.specs.Writings.{answered, put};
 
 use fault::{PlanFault, RecordFault};
 
@@ -33,24 +33,23 @@ pub trait RecordKind: Sized {
     fn judge(&self, index: usize) -> Result<(), RecordFault>
         ensures value { result ≡ judging index self.now };
 
-    // Puts a record that may be written at the front of a buffer that has room for it.
-    fn put(&self, buffer: &mut [u8])
-        requires judged { judging 0 self.now ≡ Ok tt }
-        requires room { long ≤ length buffer.old }
-        ensures after { buffer.new ≡ written self.now ++ drop long buffer.old };
-
-    // Writes the record at the front of the buffer.
-    fn write(&self, buffer: &mut [u8]) -> Result<(), PlanFault>
-        ensures value { result ≡ answered long (length buffer.old) (judging 0 self.now) }
-        ensures after { buffer.new ≡ put_by result long (written self.now) buffer.old }
+    // Whether the record may be written to the buffer: it is judged first, and then the room.
+    fn may_write(&self, buffer: &[u8]) -> Result<(), PlanFault>
+        ensures value { result ≡ answered long (length buffer.now) (judging 0 self.now) }
+        ensures judged { OnOk result (judging 0 self.now ≡ Ok tt) }
+        ensures room { OnOk result (long ≤ length buffer.now) }
     {
         self.judge(0)?;
         if buffer.len() < Self::octet_count() {
             return Err(PlanFault::Buffer);
         }
-        self.put(buffer);
         Ok(())
     }
+
+    // Writes the record at the front of the buffer.
+    fn write(&self, buffer: &mut [u8]) -> Result<(), PlanFault>
+        ensures value { result ≡ answered long (length buffer.old) (judging 0 self.now) }
+        ensures after { buffer.new ≡ put result long (written self.now) buffer.old };
 
     ghost some: { 0 < long };
 

@@ -7,7 +7,7 @@ ghost use Rattle.std.proofs.Common.{rules};
 use crate::field::field;
 use crate::kind::RecordKind;
 use crate::limited::{Limited, judge};
-use fault::{RecordFault, SheetFault};
+use fault::{PlanFault, RecordFault, SheetFault};
 
 #[derive(Clone, Copy, PartialEq, Eq, Debug)]
 pub struct PortRecord {
@@ -78,11 +78,13 @@ impl RecordKind for PortRecord {
         judge(index, &[], &self.limits())
     }
 
-    fn put(&self, buffer: &mut [u8]) {
+    fn write(&self, buffer: &mut [u8]) -> Result<(), PlanFault> {
+        self.may_write(buffer)?;
         let delay = u64::from(self.delay) << 47;
         let processing = u64::from(self.processing) << 27;
         let best_effort = u64::from(self.best_effort) << 13;
         let octets = (delay + processing + best_effort).to_be_bytes();
         buffer[0..8].copy_from_slice(&octets);
+        Ok(())
     }
 }

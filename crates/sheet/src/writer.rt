@@ -25,7 +25,8 @@ fn put_record<K: RecordKind>(item: &K, index: usize, buffer: &mut [u8])
 {
     let size = K::octet_count();
     let first = index * size;
-    item.put(&mut buffer[first..first + size]);
+    // Judged, and with room for it, it is never refused.
+    let _ = item.write(&mut buffer[first..first + size]);
 }
 
 // Puts records that may be written into a buffer that is long enough.
