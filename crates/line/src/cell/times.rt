@@ -54,7 +54,7 @@ impl Line for Cell {
     }
 
     fn wire_time(&self, port: u8, length: u16) -> u32 {
-        if port >= self.ports || length < 64 || length > Self::LARGEST {
+        if !self.carries(port, length) {
             return 0;
         }
         // a last cell that is not full takes its whole time
