@@ -58,8 +58,6 @@ impl Line for Cell {
             return 0;
         }
         // a last cell that is not full takes its whole time
-        let size = u32::from(self.size);
-        let cells = (u32::from(length) + (size - 1)) / size;
-        cells * self.time
+        u32::from(length).div_ceil(u32::from(self.size)) * self.time
     }
 }
