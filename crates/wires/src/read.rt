@@ -57,12 +57,12 @@ fn read_cell(words: &[&str]) -> Option<Command>
     requires first { slice_index_or (texts words.now) 0 [] ≡ codes "cell" }
     ensures understood { Understood (texts words.now) result }
 {
-    if words.len() != 4 {
+    let [_, ports, size, time] = words else {
         return None;
-    }
-    let ports = number(words[1], 255)? as u8;
-    let size = number(words[2], 65535)? as u16;
-    let time = number(words[3], 4294967295)? as u32;
+    };
+    let ports = number(ports, 255)? as u8;
+    let size = number(size, 65535)? as u16;
+    let time = number(time, 4294967295)? as u32;
     Some(Command::FillCell { ports, size, time })
 }
 
