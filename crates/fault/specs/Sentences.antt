@@ -4,12 +4,7 @@ use Rattle.std.specs.Prelude.{ℕ, List, [], ◌++◌, codes, decimal}
 use Rattle.fault.specs.declared.kinds.PlanFault.{PlanFault}
 use Rattle.fault.specs.declared.kinds.PlanFault.TheVariants.{Record, SetUpTwice, NotSetUp, Filling, Cycle, PortCount, BestEffort, NumberHeld, Full, NotHeld, NoPort, Period, Route, Length, WireTime, Deadline, Start, Taken, NoStart, Buffer}
 use Rattle.fault.specs.declared.kinds.RecordFault.TheVariants.{Sheet, NotZero, OutOfLimits}
-use Rattle.fault.specs.declared.kinds.SheetFault.{SheetFault}
 use Rattle.fault.specs.declared.kinds.SheetFault.TheVariants.{Unfinished}
-
--- the record that a sheet's fault names
-abbrev pub unfinished : SheetFault → ℕ
-unfinished (Unfinished k) = k
 
 -- the sentence of a fault that has no place, and nothing for one that has
 abbrev pub advice : PlanFault → List ℕ
@@ -36,7 +31,7 @@ advice Buffer = codes "the buffer is too short for the records: lend a longer on
 
 -- the sentence of each fault
 abbrev pub sentence : PlanFault → List ℕ
-sentence (Record (Sheet e)) = codes "record " ++ (decimal (unfinished e) ++ codes " does not lie whole in its sheet: lengthen the sheet or ask for an earlier record")
+sentence (Record (Sheet (Unfinished k))) = codes "record " ++ (decimal k ++ codes " does not lie whole in its sheet: lengthen the sheet or ask for an earlier record")
 sentence (Record (NotZero k b)) = codes "record " ++ (decimal k ++ (codes ": the field at bit " ++ (decimal b ++ codes " must be zero")))
 sentence (Record (OutOfLimits k b)) = codes "record " ++ (decimal k ++ (codes ": the field at bit " ++ (decimal b ++ codes " is outside its limits")))
 sentence SetUpTwice = advice SetUpTwice

@@ -22,6 +22,7 @@ pub struct Place {
     pub hop: u8,
 }
 
+// The number of a kind of fault is printed and sent as it is, so it is no enum; faults of one kind share it.
 #[derive(Clone, Copy, PartialEq, Eq, Debug)]
 pub struct Refusal {
     pub number: u8,
@@ -42,7 +43,7 @@ impl Refusal {
         }
     }
 
-    // A refusal of the plan layer that names a hop, or none by hop 0.
+    // A refusal of the plan layer that names a hop.
     fn at_hop(number: u8, hop: u8) -> Refusal
         ensures value { result ≡ tells number Layer.Plan 0 0 hop }
     {
@@ -57,15 +58,21 @@ impl Refusal {
             place,
         }
     }
+
+    // A refusal of the plan layer that has no place.
+    fn of_plan(number: u8) -> Refusal
+        ensures value { result ≡ tells number Layer.Plan 0 0 0 }
+    {
+        Refusal::at_hop(number, 0)
+    }
 }
 
 impl SheetFault {
     pub fn refusal(&self) -> Refusal
         ensures value { result ≡ refused (Record (Sheet self.now)) }
     {
-        match *self {
-            SheetFault::Unfinished { index } => Refusal::at_bit(1, Layer::Sheet, index, 0),
-        }
+        let SheetFault::Unfinished { index } = *self;
+        Refusal::at_bit(1, Layer::Sheet, index, 0)
     }
 }
 
@@ -92,20 +99,20 @@ impl PlanFault {
     {
         match *self {
             PlanFault::Record(fault) => fault.refusal(),
-            PlanFault::SetUpTwice | PlanFault::NotSetUp => Refusal::at_hop(4, 0),
+            PlanFault::SetUpTwice | PlanFault::NotSetUp => Refusal::of_plan(4),
             PlanFault::Filling | PlanFault::Cycle | PlanFault::PortCount | PlanFault::BestEffort =>
-                Refusal::at_hop(5, 0),
-            PlanFault::NumberHeld => Refusal::at_hop(6, 0),
-            PlanFault::Full => Refusal::at_hop(7, 0),
-            PlanFault::NotHeld | PlanFault::NoPort => Refusal::at_hop(8, 0),
-            PlanFault::Period => Refusal::at_hop(9, 0),
+                Refusal::of_plan(5),
+            PlanFault::NumberHeld => Refusal::of_plan(6),
+            PlanFault::Full => Refusal::of_plan(7),
+            PlanFault::NotHeld | PlanFault::NoPort => Refusal::of_plan(8),
+            PlanFault::Period => Refusal::of_plan(9),
             PlanFault::Route { hop } => Refusal::at_hop(10, hop),
-            PlanFault::Length => Refusal::at_hop(11, 0),
+            PlanFault::Length => Refusal::of_plan(11),
             PlanFault::WireTime { hop } => Refusal::at_hop(12, hop),
-            PlanFault::Deadline => Refusal::at_hop(13, 0),
-            PlanFault::Start => Refusal::at_hop(14, 0),
-            PlanFault::Taken | PlanFault::NoStart => Refusal::at_hop(15, 0),
-            PlanFault::Buffer => Refusal::at_hop(16, 0),
+            PlanFault::Deadline => Refusal::of_plan(13),
+            PlanFault::Start => Refusal::of_plan(14),
+            PlanFault::Taken | PlanFault::NoStart => Refusal::of_plan(15),
+            PlanFault::Buffer => Refusal::of_plan(16),
         }
     }
 }

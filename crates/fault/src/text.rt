@@ -1,28 +1,17 @@
 // Each fault as a sentence that says what to do.
 ghost use Rattle.std.specs.Prelude.{◌≡◌, Some};
-ghost use Rattle.fault.specs.Sentences.{sentence, advice, unfinished};
+ghost use Rattle.fault.specs.Sentences.{sentence, advice};
 ghost use Rattle.fault.specs.declared.kinds.PlanFault.TheVariants.{Record};
 ghost use Rattle.fault.specs.declared.kinds.RecordFault.TheVariants.{Sheet};
 
 use crate::kinds::{PlanFault, RecordFault, SheetFault};
 use std::fmt;
 
-impl SheetFault {
-    // The record that a sheet's fault names.
-    fn index(&self) -> usize
-        ensures value { result ≡ unfinished self.now }
-    {
-        match *self {
-            SheetFault::Unfinished { index } => index,
-        }
-    }
-}
-
 impl fmt::Display for SheetFault {
     ghost output = { λ fault. Some (sentence (Record (Sheet fault))) };
 
     fn fmt<W: fmt::Write>(&self, f: &mut fmt::Formatter<W>) -> fmt::Result {
-        let index = self.index();
+        let SheetFault::Unfinished { index } = *self;
         write!(
             f,
             "record {index} does not lie whole in its sheet: lengthen the sheet or ask for an earlier record"

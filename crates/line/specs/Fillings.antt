@@ -5,8 +5,14 @@ use Rattle.fault.specs.declared.kinds.PlanFault.{PlanFault}
 use Rattle.fault.specs.declared.kinds.PlanFault.TheVariants.{Filling}
 use Rattle.line.specs.declared.cell.Cell.{Cell}
 use Rattle.line.specs.declared.ethernet.Ethernet.{Ethernet}
+use Rattle.line.specs.declared.ethernet.Rate.{Rate}
 use Rattle.line.specs.declared.ethernet.Rate.TheVariants.{Mb10}
 use Rattle.line.specs.Times.{code}
+
+-- the rate of a code, or a refusal where it is not 1, 2 or 3
+abbrev pub Decoded : ℕ → Result Rate PlanFault → Type 0
+Decoded c (Ok rate) = code rate ≡ c
+Decoded c (Err e) = (1 ≤ c → c ≤ 3 → ⊥) × (e ≡ Filling)
 
 -- from 1 to 32 rate codes, each 1, 2 or 3
 pub record Codes (cs : List ℕ) : Type 0 where

@@ -1,5 +1,5 @@
 // A line: its number of ports, and the wire time of a length on a port.
-ghost use Rattle.std.specs.Prelude.{◌≡◌, ℕ, ◌<◌, ◌≤◌};
+ghost use Rattle.std.specs.Prelude.{◌≡◌, ◌↔◌, IsTrue, ℕ, ◌<◌, ◌≤◌};
 ghost use Rattle.line.specs.Meaning.{Meaning, Rules};
 
 // The rest of the planner knows a line by this trait alone.
@@ -18,6 +18,14 @@ pub trait Line {
     fn ports(&self) -> u8
         ensures value { result ≡ (meaning self.now).ports }
         ensures same { self.exit.now ≡ self.entry.now };
+
+    // Whether the port is there and takes a frame of this length.
+    fn carries(&self, port: u8, length: u16) -> bool
+        ensures carried { IsTrue result ↔ ((port < (meaning self.now).ports) × (64 ≤ length) × (length ≤ most)) }
+        ensures same { self.exit.now ≡ self.entry.now }
+    {
+        port < self.ports() && (64..=Self::longest()).contains(&length)
+    }
 
     fn wire_time(&self, port: u8, length: u16) -> u32
         ensures value { result ≡ (meaning self.now).time port length }
@@ -45,8 +53,6 @@ pub trait Line {
 }
 
 // The laws of the trait as the four rules in words.
-pub fn keeps_the_rules<L: Line>(line: &L) -> u8
+pub fn keeps_the_rules<L: Line>(line: &L)
     ensures rules { Rules L.most (L.meaning line.now) }
-{
-    0
-}
+{}

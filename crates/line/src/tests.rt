@@ -50,7 +50,7 @@ impl Line for Odd {
     }
 
     fn wire_time(&self, port: u8, length: u16) -> u32 {
-        if port >= 3 || length < 64 || length > Self::LARGEST {
+        if !self.carries(port, length) {
             return 0;
         }
         7 * u32::from(length) + u32::from(port)

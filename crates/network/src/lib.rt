@@ -4,36 +4,26 @@
 ghost use Rattle.network.specs.Theorems.{NoWait, OverlapWaits, RunsExist, OneGateList, WaitsExactlyWhereFlowsOverlap};
 
 // Flows that do not overlap keep their plan in every run.
-pub fn no_wait() -> u8
+pub fn no_wait()
     ensures { NoWait }
-{
-    0
-}
+{}
 
 // Well-formed flows have a run, whether they overlap or not and whatever the gates.
-pub fn runs_exist() -> u8
+pub fn runs_exist()
     ensures { RunsExist }
-{
-    0
-}
+{}
 
 // Where two flows overlap, some scheduled frame waits in every run.
-pub fn overlap_waits() -> u8
+pub fn overlap_waits()
     ensures { OverlapWaits }
-{
-    0
-}
+{}
 
 // Under gates with the defined states, frames wait exactly where flows overlap.
-pub fn waits_exactly() -> u8
+pub fn waits_exactly()
     ensures { WaitsExactlyWhereFlowsOverlap }
-{
-    0
-}
+{}
 
 // Each port has exactly one gate list.
-pub fn one_gate_list() -> u8
+pub fn one_gate_list()
     ensures { OneGateList }
-{
-    0
-}
+{}

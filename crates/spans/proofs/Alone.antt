@@ -19,6 +19,11 @@ after-shares one other n (pos, before, clear) = shares_still one other (before 0
 pub never-shares : (one other : Spans) → Clears one other Never → Shares one other
 never-shares one other always = shares_still one other (always 0)
 
+pub shares-unless_clear : (one other : Spans) (r : Clearance) → Clears one other r → (r ≡ Clear → ⊥) → Shares one other
+shares-unless_clear one other Clear is some = absurd (some refl)
+shares-unless_clear one other (After n) is some = after-shares one other n is
+shares-unless_clear one other Never is some = never-shares one other is
+
 pub clears-alone : (one other : Spans) (r k : Clearance) → Clears one other r → Clears one other k → k ≡ r
 clears-alone one other Clear Clear is also = refl
 clears-alone one other Clear (After n) is also = absurd (is (after-shares one other n also))

@@ -13,9 +13,7 @@ pub fn gcd(m: u32, n: u32) -> u32
     let mut g = m;
     let mut rest = n;
     while rest != 0 {
-        let less = g % rest;
-        g = rest;
-        rest = less;
+        (g, rest) = (rest, g % rest);
     }
     g
 }

@@ -1,10 +1,11 @@
 // The two lines, and what each command does to them.
 ghost use Rattle.std.specs.Prelude.{◌≡◌, [], ◌∷◌};
 ghost use Rattle.line.specs.Fillings.{Coded, Celled};
-ghost use Rattle.wires.specs.Performed.{Performed, FilledEthernet, FilledCell, time_of};
+ghost use Rattle.wires.specs.Performed.{Performed, filling, time_of};
 
 use crate::answer::Answer;
 use crate::command::{Command, Kind};
+use fault::PlanFault;
 use line::{Cell, Ethernet, Line};
 
 // One line of each kind.
@@ -12,6 +13,19 @@ use line::{Cell, Ethernet, Line};
 pub struct Lines {
     ethernet: Ethernet,
     cell: Cell,
+}
+
+// The answer to a filling that came out so and left the line as it is.
+fn answer_to_filling<L: Line>(kind: Kind, filled: Result<(), PlanFault>, line: &L) -> Answer
+    ensures value { result ≡ filling kind filled (L.meaning line.now).ports }
+{
+    match filled {
+        Ok(()) => Answer::Filled {
+            kind,
+            ports: line.ports(),
+        },
+        Err(fault) => Answer::Refused { kind, fault },
+    }
 }
 
 impl Lines {
@@ -31,38 +45,18 @@ impl Lines {
         ensures performed { Performed command.now self.old result self.new }
     {
         match command {
-            Command::FillEthernet { codes } => self.fill_ethernet(codes.as_slice()),
-            Command::FillCell { ports, size, time } => self.fill_cell(*ports, *size, *time),
+            Command::FillEthernet { codes } => {
+                let filled = self.ethernet.fill(codes.as_slice());
+                answer_to_filling(Kind::Ethernet, filled, &self.ethernet)
+            }
+            Command::FillCell { ports, size, time } => {
+                let filled = self.cell.fill(*ports, *size, *time);
+                answer_to_filling(Kind::Cell, filled, &self.cell)
+            }
             Command::WireTime { kind, port, length } => Answer::Time {
                 kind: *kind,
                 time: self.wire_time(*kind, *port, *length),
             },
-        }
-    }
-
-    fn fill_ethernet(&mut self, codes: &[u8]) -> Answer
-        ensures filled { FilledEthernet codes.now self.old result self.new }
-    {
-        let kind = Kind::Ethernet;
-        match self.ethernet.fill(codes) {
-            Ok(()) => Answer::Filled {
-                kind,
-                ports: self.ethernet.ports(),
-            },
-            Err(fault) => Answer::Refused { kind, fault },
-        }
-    }
-
-    fn fill_cell(&mut self, ports: u8, size: u16, time: u32) -> Answer
-        ensures filled { FilledCell ports size time self.old result self.new }
-    {
-        let kind = Kind::Cell;
-        match self.cell.fill(ports, size, time) {
-            Ok(()) => Answer::Filled {
-                kind,
-                ports: self.cell.ports(),
-            },
-            Err(fault) => Answer::Refused { kind, fault },
         }
     }
 

@@ -1,10 +1,12 @@
 // Commands from words.
-ghost use Rattle.std.specs.Prelude.{◌≡◌, ℕ, [], IfOk, codes, MatchOption, ◌≢◌, slice_index_or};
+ghost use Rattle.std.specs.Prelude.{◌≡◌, ℕ, [], IfOk, codes, MatchOption, MatchResult, ◌≢◌, slice_index_or};
 ghost use Rattle.wires.specs.Answers.{name};
+ghost use Rattle.wires.specs.declared.command.Kind.{Kind};
 ghost use Rattle.wires.specs.Orders.{Number, Understood, texts};
 
 use crate::command::{Command, Kind};
 use std::alloc::{AllocError, Global};
+use std::str::FromStr;
 
 // The number that a word writes, or `most` where it is above.
 fn number(word: &str, most: u64) -> Option<u64>
@@ -16,14 +18,22 @@ fn number(word: &str, most: u64) -> Option<u64>
     }
 }
 
-// The kind of line that a word names.
-fn read_kind(word: &str) -> Option<Kind>
-    ensures cases { MatchOption result ((k : Kind) → word.now ≢ name k) (λ k. word.now ≡ name k) }
-{
-    match word {
-        "ethernet" => Some(Kind::Ethernet),
-        "cell" => Some(Kind::Cell),
-        _ => None,
+// A word that names no kind of line.
+#[derive(Clone, Copy, PartialEq, Eq, Debug)]
+pub struct UnknownKind;
+
+impl FromStr for Kind {
+    type Err = UnknownKind;
+
+    ghost from_str_gives = { λ word r. MatchResult r (λ k. word ≡ name k) (λ _. (k : Kind) → word ≢ name k) };
+
+    // The kind of line that a word names.
+    fn from_str(word: &str) -> Result<Kind, UnknownKind> {
+        match word {
+            "ethernet" => Ok(Kind::Ethernet),
+            "cell" => Ok(Kind::Cell),
+            _ => Err(UnknownKind),
+        }
     }
 }
 
@@ -47,12 +57,12 @@ fn read_cell(words: &[&str]) -> Option<Command>
     requires first { slice_index_or (texts words.now) 0 [] ≡ codes "cell" }
     ensures understood { Understood (texts words.now) result }
 {
-    if words.len() != 4 {
+    let [_, ports, size, time] = words else {
         return None;
-    }
-    let ports = number(words[1], 255)? as u8;
-    let size = number(words[2], 65535)? as u16;
-    let time = number(words[3], 4294967295)? as u32;
+    };
+    let ports = number(ports, 255)? as u8;
+    let size = number(size, 65535)? as u16;
+    let time = number(time, 4294967295)? as u32;
     Some(Command::FillCell { ports, size, time })
 }
 
@@ -64,7 +74,9 @@ fn read_time(words: &[&str]) -> Option<Command>
     if words.len() != 4 {
         return None;
     }
-    let kind = read_kind(words[1])?;
+    let Ok(kind) = words[1].parse() else {
+        return None;
+    };
     let port = number(words[2], 255)? as u8;
     let length = number(words[3], 65535)? as u16;
     Some(Command::WireTime { kind, port, length })

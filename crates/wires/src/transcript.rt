@@ -33,9 +33,7 @@ fn note(
     ensures noted { OnOk result (Noted number line.now lines.old (string_bytes text.old) lines.new (string_bytes text.new)) }
 {
     let answer = lines.answer(heap, number, line)?;
-    let told = format!(in heap; "{answer}\n")?;
-    text.push_str(told.as_str())?;
-    Ok(())
+    writeln!(text, "{answer}")
 }
 
 // What comes of the whole input.

@@ -54,12 +54,10 @@ impl Line for Cell {
     }
 
     fn wire_time(&self, port: u8, length: u16) -> u32 {
-        if port >= self.ports || length < 64 || length > Self::LARGEST {
+        if !self.carries(port, length) {
             return 0;
         }
         // a last cell that is not full takes its whole time
-        let size = u32::from(self.size);
-        let cells = (u32::from(length) + (size - 1)) / size;
-        cells * self.time
+        u32::from(length).div_ceil(u32::from(self.size)) * self.time
     }
 }

@@ -1,21 +1,22 @@
 // The filling of an Ethernet line.
-ghost use Rattle.std.specs.Prelude.{◌≡◌, ℕ, ◌<◌, ◌≤◌, [], ◌∷◌, MatchOption};
-ghost use Rattle.line.specs.Fillings.{Coded, EthernetFilled};
-ghost use Rattle.line.specs.Times.{code};
+ghost use Rattle.std.specs.Prelude.{[], ◌∷◌};
+ghost use Rattle.line.specs.Fillings.{Decoded, Coded, EthernetFilled};
 
 use crate::ethernet::{Ethernet, Rate};
 use fault::PlanFault;
 
-impl Rate {
+impl TryFrom<u8> for Rate {
+    type Error = PlanFault;
+
+    ghost try_from_gives = { Decoded };
+
     // The rate that a code means.
-    fn from_code(c: u8) -> Option<Rate>
-        ensures cases { MatchOption result ((1 ≤ c → c ≤ 3 → ⊥)) (λ rate. code rate ≡ c) }
-    {
-        match c {
-            1 => Some(Rate::Mb10),
-            2 => Some(Rate::Mb100),
-            3 => Some(Rate::Mb1000),
-            _ => None,
+    fn try_from(code: u8) -> Result<Rate, PlanFault> {
+        match code {
+            1 => Ok(Rate::Mb10),
+            2 => Ok(Rate::Mb100),
+            3 => Ok(Rate::Mb1000),
+            _ => Err(PlanFault::Filling),
         }
     }
 }
@@ -39,11 +40,9 @@ impl Ethernet {
             return Err(PlanFault::Filling);
         }
         let mut rates = [Rate::Mb10; 32];
-        for (port, c) in codes.iter().enumerate() {
-            let Some(rate) = Rate::from_code(*c) else {
-                return Err(PlanFault::Filling);
-            };
-            rates[port] = rate;
+        // by index: what is written through `iter_mut` no proof sees after the loop
+        for (port, code) in codes.iter().enumerate() {
+            rates[port] = Rate::try_from(*code)?;
         }
         *self = Ethernet {
             ports: codes.len() as u8,

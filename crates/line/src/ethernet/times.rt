@@ -55,7 +55,7 @@ impl Line for Ethernet {
     }
 
     fn wire_time(&self, port: u8, length: u16) -> u32 {
-        if port >= self.ports || length < 64 || length > Self::LARGEST {
+        if !self.carries(port, length) {
             return 0;
         }
         // the preamble and the start delimiter are 8 octets

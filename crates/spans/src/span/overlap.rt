@@ -7,6 +7,7 @@ ghost use Rattle.spans.specs.declared.span.overlap.Clearance.{Clearance as Answe
 use super::Spans;
 use crate::arithmetic::{distance, gcd};
 
+// Three answers and no Option: the spans meet in two cases of them, and callers tell these apart by name.
 #[derive(Clone, Copy, PartialEq, Eq, Debug)]
 pub enum Clearance {
     // they share no instant
@@ -24,10 +25,7 @@ impl Spans {
         ensures only { T result → Shares self.now other.now }
         ensures all { Shares self.now other.now → T result }
     {
-        match self.clearance(other) {
-            Clearance::Clear => false,
-            Clearance::After(_) | Clearance::Never => true,
-        }
+        self.clearance(other) != Clearance::Clear
     }
 
     // How far these spans have to move up until they share no instant with the others, which stay.

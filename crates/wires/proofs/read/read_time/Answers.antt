@@ -9,16 +9,15 @@ returns-then-words-ne4 c =
     let many = length-texts c.args.words.now in
     record { understood = no-time (texts c.args.words.now) c.requires.first (λ k q l h. let four = h.many in omega arith) }
 
-pub returns-in_err-kind : goal.returns-in_err-kind
-returns-in_err-kind c =
+pub returns-in_default : goal.returns-in_default
+returns-in_default c =
     let word = get_or-texts c.args.words.now 1 _ (omega arith) in
-    simp c.from_residual.ensures
-    (record { understood = no-time (texts c.args.words.now) c.requires.first (λ k q l h. c.in_err-kind.ensures.cases k (rw word at h.kind)) })
+    record { understood = no-time (texts c.args.words.now) c.requires.first (λ k q l h. c.in_default.ensures.value k (rw word at h.kind)) }
 
 pub returns-in_err-port : goal.returns-in_err-port
 returns-in_err-port c =
     let word = get_or-texts c.args.words.now 2 _ (omega arith) in
-    simp c.from_residual-in_err-port.ensures
+    simp c.from_residual.ensures
     (record { understood = no-time (texts c.args.words.now) c.requires.first (λ k q l h. c.in_err-port.ensures.cases q (rw word at h.port)) })
 
 pub returns-in_err-length : goal.returns-in_err-length
