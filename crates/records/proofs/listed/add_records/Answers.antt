@@ -1,4 +1,4 @@
-use Rattle.std.proofs.Common.{[], ◌++◌, string_bytes, unwrap_or, ◌∙◌}
+use Rattle.std.proofs.Common.{[], ◌++◌, string_bytes, unwrap_or, ◌∙◌, rules}
 use Rattle.sheet.specs.Sheets.{read_at}
 use Rattle.records.specs.Listings.{listing}
 use Rattle.records.proofs.Listings.{appended_line, lines_more}
@@ -10,8 +10,7 @@ loop-index-preserved g c =
     let reading = g.K.RecordKind.reading in
     let sheet = c.args.sheet.now in
     let before = string_bytes c.loop-index.lines in
-    let after = string_bytes c.writeln.new.self in
     let whole = string_bytes c.args.lines.now ++ listing z reading (λ x. unwrap_or (g.K.Display.output x) []) sheet in
     let is = c.in-Ok.ensures.value ∙ (λ i. read_at z reading (c.new.ensures.index i) (c.new.ensures.sheet i)) in
-    let written = appended_line (g.K.Display.output c.in-Ok.record) before after (c.requires.prints c.in-Ok.record) c.in_ok-writeln-in-Ok.ensures.bytes in
-    lines_more (λ x. unwrap_or (g.K.Display.output x) []) (λ k. read_at z reading k sheet) _ _ _ before after whole c.loop-index-test.true is written c.loop-index.invariant
+    lines_more (λ x. unwrap_or (g.K.Display.output x) []) (λ k. read_at z reading k sheet) _ _ _ before _ whole c.loop-index-test.true is
+    (search (rules, appended_line (g.K.Display.output c.in-Ok.record) before, c.requires.prints c.in-Ok.record)) c.loop-index.invariant
