@@ -58,16 +58,15 @@ fn gate_list_of_port_1(rt: HostRuntime) -> Result<(), Fail> {
 #[test]
 fn chosen_starts(rt: HostRuntime) -> Result<(), Fail> {
     let probe = flow(20, 100, 500_000, 20_000, &[1]);
-    assert_eq!(rt; offer_at(&mut held()?, probe, 10_892), Ok(10_892));
-    assert_eq!(rt;
-        offer_at(&mut held()?, probe, 10_891),
-        Err(PlanFault::Taken)
-    );
-    assert_eq!(rt; offer_at(&mut held()?, probe, 1_100), Ok(1_100));
-    assert_eq!(rt; offer_at(&mut held()?, probe, 1_101), Err(PlanFault::Taken));
-    assert_eq!(rt;
-        offer_at(&mut held()?, probe, 500_000),
-        Err(PlanFault::Start)
-    );
+    let starts = [
+        (10_892, Ok(10_892)),
+        (10_891, Err(PlanFault::Taken)),
+        (1_100, Ok(1_100)),
+        (1_101, Err(PlanFault::Taken)),
+        (500_000, Err(PlanFault::Start)),
+    ];
+    for (start, answer) in starts {
+        assert_eq!(rt; offer_at(&mut held()?, probe, start), answer);
+    }
     Ok(())
 }

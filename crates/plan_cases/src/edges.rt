@@ -1,45 +1,42 @@
 // Edges of the checks, of overlap over all repetitions, and of the longest gate list.
-use crate::records::{flow, gigabit, offer, offer_at, two_ports};
+use crate::records::{ethernet, flow, gigabit, offer, offer_at, two_ports};
 use fault::PlanFault;
 use line::Ethernet;
+use plan::Plan;
 use sheet::PortRecord;
 use std::test::Fail;
 
 #[test]
 fn limits_of_an_offer(rt: HostRuntime) -> Result<(), Fail> {
     let mut plan = gigabit(1_000_000)?;
-    assert_eq!(rt;
-        offer(&mut plan, flow(7, 100, 500_000, 2_927, &[0, 1])),
-        Err(PlanFault::Deadline)
-    );
-    assert_eq!(rt;
-        offer(&mut plan, flow(7, 100, 500_000, 2_928, &[0, 1])),
-        Ok(0)
-    );
-    assert_eq!(rt;
-        offer(&mut plan, flow(7, 100, 500_000, 2_928, &[0, 1])),
-        Err(PlanFault::NumberHeld)
-    );
-    assert_eq!(rt;
-        offer(&mut plan, flow(8, 100, 62_500, 20_000, &[0])),
-        Ok(864)
-    );
-    assert_eq!(rt;
-        offer(&mut plan, flow(9, 100, 50_000, 20_000, &[0])),
-        Err(PlanFault::Period)
-    );
-    assert_eq!(rt;
-        offer(&mut plan, flow(9, 100, 500_000, 20_000, &[1, 2])),
-        Err(PlanFault::Route { hop: 1 })
-    );
-    assert_eq!(rt;
-        offer(&mut plan, flow(9, 100, 500_000, 20_000, &[1, 0, 1])),
-        Err(PlanFault::Route { hop: 2 })
-    );
-    assert_eq!(rt;
-        offer(&mut plan, flow(9, 1_523, 500_000, 20_000, &[1])),
-        Err(PlanFault::Length)
-    );
+    let offers = [
+        (
+            flow(7, 100, 500_000, 2_927, &[0, 1]),
+            Err(PlanFault::Deadline),
+        ),
+        (flow(7, 100, 500_000, 2_928, &[0, 1]), Ok(0)),
+        (
+            flow(7, 100, 500_000, 2_928, &[0, 1]),
+            Err(PlanFault::NumberHeld),
+        ),
+        (flow(8, 100, 62_500, 20_000, &[0]), Ok(864)),
+        (flow(9, 100, 50_000, 20_000, &[0]), Err(PlanFault::Period)),
+        (
+            flow(9, 100, 500_000, 20_000, &[1, 2]),
+            Err(PlanFault::Route { hop: 1 }),
+        ),
+        (
+            flow(9, 100, 500_000, 20_000, &[1, 0, 1]),
+            Err(PlanFault::Route { hop: 2 }),
+        ),
+        (
+            flow(9, 1_523, 500_000, 20_000, &[1]),
+            Err(PlanFault::Length),
+        ),
+    ];
+    for (flow, answer) in offers {
+        assert_eq!(rt; offer(&mut plan, flow), answer);
+    }
     Ok(())
 }
 
@@ -63,21 +60,17 @@ fn all_repetitions_count(rt: HostRuntime) -> Result<(), Fail> {
 
 #[test]
 fn a_frame_as_long_as_its_period(rt: HostRuntime) -> Result<(), Fail> {
-    let mut line = Ethernet::new();
-    line.fill(&[1, 1])?;
     let port = PortRecord {
         delay: 0,
         processing: 0,
         best_effort: 64,
     };
-    let mut plan = two_ports(line, 57_600, port)?;
+    let mut plan = two_ports(ethernet(&[1, 1])?, 57_600, port)?;
     assert_eq!(rt; offer(&mut plan, flow(1, 64, 57_600, 60_000, &[0])), Ok(0));
     let mut buffer = [0; 5];
     assert_eq!(rt; plan.gate_list(0, &mut buffer)?, 1);
     assert!(rt; buffer == [0x80, 0, 0, 0xe1, 0]);
-    let mut line = Ethernet::new();
-    line.fill(&[1, 1])?;
-    let mut plan = two_ports(line, 57_599, port)?;
+    let mut plan = two_ports(ethernet(&[1, 1])?, 57_599, port)?;
     assert_eq!(rt;
         offer(&mut plan, flow(1, 64, 57_599, 60_000, &[0])),
         Err(PlanFault::WireTime { hop: 0 })
@@ -88,9 +81,8 @@ fn a_frame_as_long_as_its_period(rt: HostRuntime) -> Result<(), Fail> {
 #[test]
 fn the_longest_gate_list(rt: HostRuntime) -> Result<(), Fail> {
     let mut plan = gigabit(1_000_000_000)?;
-    for k in 0..64 {
-        let number = k as u16 + 1;
-        let start = k * 900_000 + 100_000;
+    for number in 1..=64 {
+        let start = (u32::from(number) - 1) * 900_000 + 100_000;
         assert_eq!(rt;
             offer_at(
                 &mut plan,
@@ -114,7 +106,7 @@ fn the_longest_gate_list(rt: HostRuntime) -> Result<(), Fail> {
 
 #[test]
 fn calls_before_set_up(rt: HostRuntime) {
-    let mut plan = plan::Plan::new(Ethernet::new());
+    let mut plan = Plan::new(Ethernet::new());
     assert_eq!(rt; plan.flowspan(), Err(PlanFault::NotSetUp));
     assert_eq!(rt; plan.withdraw(1), Err(PlanFault::NotSetUp));
     assert_eq!(rt; plan.gate_list(0, &mut []), Err(PlanFault::NotSetUp));

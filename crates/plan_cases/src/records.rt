@@ -5,7 +5,9 @@ ghost use Rattle.sheet.specs.declared.flow.Start.TheVariants.{Free};
 use fault::PlanFault;
 use line::{Ethernet, Line};
 use plan::Plan;
-use sheet::{FlowRecord, GateRecord, GateState, PortRecord, Reader, RecordKind, Start};
+use sheet::{
+    FlowRecord, GateRecord, GateState, PortRecord, Reader, RecordKind, Start, write_sheet,
+};
 use std::process::Abort;
 use std::test::Fail;
 
@@ -58,19 +60,23 @@ where
     L: Drop,
 {
     let mut sheet = [0; 16];
-    port.write(&mut sheet[0..8])?;
-    port.write(&mut sheet[8..16])?;
+    write_sheet(&[port, port], &mut sheet)?;
     let mut plan = Plan::new(line);
     plan.set_up(cycle, &sheet)?;
     Ok(plan)
 }
 
+// A line filled with the rate codes of its ports.
+pub fn ethernet(codes: &[u8]) -> Result<Ethernet, PlanFault> {
+    let mut line = Ethernet::new();
+    line.fill(codes)?;
+    Ok(line)
+}
+
 // Two ports at 1,000 Mb/s with delays of 100 and 1,000 ns and best-effort frames of any length.
 pub fn gigabit(cycle: u32) -> Result<Plan<Ethernet>, PlanFault> {
-    let mut line = Ethernet::new();
-    line.fill(&[3, 3])?;
     two_ports(
-        line,
+        ethernet(&[3, 3])?,
         cycle,
         PortRecord {
             delay: 100,

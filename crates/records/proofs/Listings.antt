@@ -1,8 +1,13 @@
 -- A listing, record by record.
-use Rattle.std.proofs.Common.{◌≡◌, ℕ, suc, ◌+◌, ◌-◌, ◌<◌, List, ◌++◌, Ok, Err, Result, sym, ap, ◌∙◌, append_assoc, add-one, arith}
+use Rattle.std.proofs.Common.{◌≡◌, ℕ, suc, ◌+◌, ◌-◌, ◌<◌, List, [], ◌++◌, Option, Some, None, IsSome, Ok, Result, unwrap_or, sym, ap, ◌∙◌, append_assoc, add-one, arith, rules}
+use Rattle.std.specs.Fmt.{AppendsText, with_newline}
 use Rattle.fault.specs.declared.kinds.RecordFault.{RecordFault}
 use Rattle.records.specs.Listings.{line, one_before, lines_from}
-use Rattle.records.specs.Sentences.{fault_text}
+
+-- a text that is printed with the end of its line
+pub appended_line : (o : Option (List ℕ)) (before after : List ℕ) → IsSome o → AppendsText before after (with_newline o) → after ≡ before ++ line (unwrap_or o [])
+appended_line None before after is appends = search rules
+appended_line (Some t) before after is appends = appends
 
 module _ {R : Type 0} (text : R → List ℕ) (at : ℕ → Result R RecordFault) (left : List ℕ) where
   -- record i, then the rest
@@ -16,24 +21,12 @@ module _ {R : Type 0} (text : R → List ℕ) (at : ℕ → Result R RecordFault
   -- one accepted record more is listed
   pub lines_more :
       (n i : ℕ) (before after whole : List ℕ) {x : R}
-      → i < n → Ok x ≡ at i → before ++ lines_from text at left (n - i) i ≡ whole → after ≡ before ++ line (text x)
+      → i < n → Ok x ≡ at i → after ≡ before ++ line (text x) → before ++ lines_from text at left (n - i) i ≡ whole
       → after ++ lines_from text at left (n - (i + 1)) (i + 1) ≡ whole
-  lines_more n i before after whole {x = x} h is sofar e =
+  lines_more n i before after whole {x = x} h is e sofar =
       let rest : List ℕ = lines_from text at left (n - (i + 1)) (i + 1) in
       ap (λ (t : List ℕ). t ++ rest) e
       ∙ append_assoc before (line (text x)) rest
-      ∙ ap (λ (r : Result R RecordFault). before ++ one_before text r rest) is
-      ∙ ap (λ (t : List ℕ). before ++ t) (sym (lines_step n i h))
-      ∙ sofar
-
-  -- a refused record is the last
-  pub lines-refused :
-      (n i : ℕ) (before after whole : List ℕ) {f : RecordFault}
-      → i < n → Err f ≡ at i → before ++ lines_from text at left (n - i) i ≡ whole → after ≡ before ++ line (fault_text f)
-      → after ≡ whole
-  lines-refused n i before after whole h is sofar e =
-      let rest : List ℕ = lines_from text at left (n - (i + 1)) (i + 1) in
-      e
       ∙ ap (λ (r : Result R RecordFault). before ++ one_before text r rest) is
       ∙ ap (λ (t : List ℕ). before ++ t) (sym (lines_step n i h))
       ∙ sofar

@@ -1,6 +1,6 @@
 -- The listing of a sheet: its records in order, one a line, and last the first fault.
 -- Assumes nothing.
-use Rattle.std.specs.Prelude.{ℕ, zero, suc, ◌/◌, List, [], ◌∷◌, ◌++◌, length, Ok, Err, Result}
+use Rattle.std.specs.Prelude.{ℕ, zero, suc, ◌/◌, List, [], ◌∷◌, ◌++◌, length, Option, Some, None, Ok, Err, Result}
 use Rattle.fault.specs.declared.kinds.RecordFault.{RecordFault}
 use Rattle.fault.specs.declared.kinds.RecordFault.TheVariants.{Sheet}
 use Rattle.fault.specs.declared.kinds.SheetFault.{SheetFault}
@@ -10,12 +10,17 @@ use Rattle.sheet.specs.Ports.{read_port}
 use Rattle.sheet.specs.Sheets.{read_at, record_count}
 use Rattle.sheet.specs.Texts.{flow_text, gate_text, port_text}
 use Rattle.records.specs.Sentences.{fault_text}
-use Rattle.records.specs.declared.listed.Kind.{Kind}
-use Rattle.records.specs.declared.listed.Kind.TheVariants.{Port, Flow, Gate}
+use Rattle.records.specs.declared.kind.Kind.{Kind}
+use Rattle.records.specs.declared.kind.Kind.TheVariants.{Port, Flow, Gate}
 
 -- a text and the end of its line
 abbrev pub line : List ℕ → List ℕ
 line t = t ++ (10 ∷ [])
+
+-- the line of a fault, and none where there is no fault
+abbrev pub last_line : Option RecordFault → List ℕ
+last_line None = []
+last_line (Some f) = line (fault_text f)
 
 -- what octets behind the last whole record print
 abbrev pub leftover : Result ℕ SheetFault → List ℕ

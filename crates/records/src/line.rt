@@ -1,26 +1,24 @@
-// Lines of text: a fault's line, and a text made of lines.
-ghost use Rattle.std.specs.Prelude.{◌≡◌, true, ◌++◌, is_ok, IfOk, string_bytes};
-ghost use Rattle.records.specs.Listings.{line as line_of};
+// The line that a fault prints.
+ghost use Rattle.std.specs.Prelude.{Some};
 ghost use Rattle.records.specs.Sentences.{fault_text};
 
 use fault::RecordFault;
-use std::alloc::{AllocError, Global};
+use std::fmt;
 
 // A fault with its number and its place.
-pub fn fault_text(heap: Global, fault: RecordFault) -> Result<String, AllocError>
-    ensures made { IfOk result (λ t. string_bytes t ≡ fault_text fault) }
-{
-    let refusal = fault.refusal();
-    let number = refusal.number;
-    let index = refusal.place.index;
-    let bit = refusal.place.bit;
-    format!(in heap; "fault {number} at record {index}, bit {bit}: {fault}")
-}
+#[derive(Clone, Copy, Debug, PartialEq, Eq)]
+pub struct FaultLine(pub RecordFault);
 
-// Adds one line.
-pub fn push_line(text: &mut String, line: &str) -> Result<(), AllocError>
-    ensures done { is_ok result ≡ true → string_bytes text.new ≡ string_bytes text.old ++ line_of line.now }
-{
-    text.push_str(line)?;
-    text.push_str("\n")
+impl fmt::Display for FaultLine {
+    ghost output = { λ line. Some (fault_text line.0) };
+
+    fn fmt<W: fmt::Write>(&self, f: &mut fmt::Formatter<W>) -> fmt::Result {
+        let fault = self.0;
+        let refusal = fault.refusal();
+        write!(
+            f,
+            "fault {} at record {}, bit {}: {fault}",
+            refusal.number, refusal.place.index, refusal.place.bit
+        )
+    }
 }

@@ -1,28 +1,25 @@
 // Prints the records of a sheet. The first argument is the kind of its records: port, flow or gate. The sheet is the standard input.
 #![tactic(auto)]
 
+mod kind;
 mod line;
 mod listed;
 
-use anyhow::anyhow;
-use listed::Kind;
+use anyhow::Context;
+use kind::Kind;
 use std::env;
 use std::io::Read;
 
 // Prints the listing of the sheet on the standard input.
 fn run(rt: &HostRuntime) -> anyhow::Result<()> {
     let heap = rt.alloc();
-    let mut args = env::args(rt)?;
-    let Some(name) = args.nth(1) else {
-        return Err(anyhow!("name the kind of the records: port, flow or gate"));
-    };
-    let Some(kind) = Kind::named(&name) else {
-        return Err(anyhow!("the kind of the records is port, flow or gate"));
-    };
+    let name = env::args(rt)?
+        .nth(1)
+        .context("name the kind of the records: port, flow or gate")?;
+    let kind: Kind = name.parse()?;
     let mut sheet = Vec::new(heap);
     rt.stdin().read_to_end(&mut sheet)?;
-    let text = kind.listing(heap, &sheet)?;
-    rt.print(text)?;
+    rt.print(kind.listing(heap, &sheet)?)?;
     Ok(())
 }
 

@@ -2,6 +2,8 @@
 #![tactic(auto)]
 
 #[cfg(test)]
+mod edge;
+#[cfg(test)]
 mod flows;
 #[cfg(test)]
 mod gates;

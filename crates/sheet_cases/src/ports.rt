@@ -1,167 +1,66 @@
-// Edges of the port record: octets, and the fault that they are refused for.
-use sheet::{PortRecord, RecordKind};
-use std::process::Abort;
+// Edges of the port record.
+use crate::edge::{accepted, refused};
+use sheet::PortRecord;
 
-// Number 0 is an accepted record.
-struct Case {
-    octets: u64,
-    number: u8,
-    bit: u16,
-}
-
-const CASES: [Case; 21] = [
+const ACCEPTED: [u64; 2] = [
     // each field at its least
-    Case {
-        octets: 0x0000_0000_0008_0000,
-        number: 0,
-        bit: 0,
-    },
+    0x0000_0000_0008_0000,
     // each field at its most
-    Case {
-        octets: 0xc350_7a12_04b0_0000,
-        number: 0,
-        bit: 0,
-    },
-    // propagation above its limit
-    Case {
-        octets: 0xc350_801f_40be_4000,
-        number: 3,
-        bit: 0,
-    },
-    // all above: the first in bit order
-    Case {
-        octets: 0xffff_ffff_ffff_e000,
-        number: 3,
-        bit: 0,
-    },
-    // processing above its limit
-    Case {
-        octets: 0x0032_7a12_08be_4000,
-        number: 3,
-        bit: 17,
-    },
-    // best effort below its limit
-    Case {
-        octets: 0x0032_001f_4007_e000,
-        number: 3,
-        bit: 37,
-    },
-    // best effort above its limit
-    Case {
-        octets: 0x0032_001f_44b0_2000,
-        number: 3,
-        bit: 37,
-    },
-    // spare bit 63
-    Case {
-        octets: 0x0032_001f_40be_4001,
-        number: 2,
-        bit: 51,
-    },
-    // spare bit 62
-    Case {
-        octets: 0x0032_001f_40be_4002,
-        number: 2,
-        bit: 51,
-    },
-    // spare bit 61
-    Case {
-        octets: 0x0032_001f_40be_4004,
-        number: 2,
-        bit: 51,
-    },
-    // spare bit 60
-    Case {
-        octets: 0x0032_001f_40be_4008,
-        number: 2,
-        bit: 51,
-    },
-    // spare bit 59
-    Case {
-        octets: 0x0032_001f_40be_4010,
-        number: 2,
-        bit: 51,
-    },
-    // spare bit 58
-    Case {
-        octets: 0x0032_001f_40be_4020,
-        number: 2,
-        bit: 51,
-    },
-    // spare bit 57
-    Case {
-        octets: 0x0032_001f_40be_4040,
-        number: 2,
-        bit: 51,
-    },
-    // spare bit 56
-    Case {
-        octets: 0x0032_001f_40be_4080,
-        number: 2,
-        bit: 51,
-    },
-    // spare bit 55
-    Case {
-        octets: 0x0032_001f_40be_4100,
-        number: 2,
-        bit: 51,
-    },
-    // spare bit 54
-    Case {
-        octets: 0x0032_001f_40be_4200,
-        number: 2,
-        bit: 51,
-    },
-    // spare bit 53
-    Case {
-        octets: 0x0032_001f_40be_4400,
-        number: 2,
-        bit: 51,
-    },
-    // spare bit 52
-    Case {
-        octets: 0x0032_001f_40be_4800,
-        number: 2,
-        bit: 51,
-    },
-    // spare bit 51
-    Case {
-        octets: 0x0032_001f_40be_5000,
-        number: 2,
-        bit: 51,
-    },
-    // a 2 before a 3
-    Case {
-        octets: 0xc350_801f_40be_4001,
-        number: 2,
-        bit: 51,
-    },
+    0xc350_7a12_04b0_0000,
 ];
 
-// An accepted record writes its own octets and leaves the octet behind them.
-fn writes(rt: &impl Abort, record: &PortRecord, octets: &[u8]) {
-    let mut buffer = [0xa5; 9];
-    assert!(rt; record.write(&mut buffer).is_ok());
-    assert!(rt; &buffer[0..8] == octets);
-    assert!(rt; buffer[8] == 0xa5);
+// Octets, and the number and the bit that they are refused with.
+const REFUSED: [(u64, u8, u16); 19] = [
+    // propagation above its limit
+    (0xc350_801f_40be_4000, 3, 0),
+    // all above: the first in bit order
+    (0xffff_ffff_ffff_e000, 3, 0),
+    // processing above its limit
+    (0x0032_7a12_08be_4000, 3, 17),
+    // best effort below its limit
+    (0x0032_001f_4007_e000, 3, 37),
+    // best effort above its limit
+    (0x0032_001f_44b0_2000, 3, 37),
+    // spare bit 63
+    (0x0032_001f_40be_4001, 2, 51),
+    // spare bit 62
+    (0x0032_001f_40be_4002, 2, 51),
+    // spare bit 61
+    (0x0032_001f_40be_4004, 2, 51),
+    // spare bit 60
+    (0x0032_001f_40be_4008, 2, 51),
+    // spare bit 59
+    (0x0032_001f_40be_4010, 2, 51),
+    // spare bit 58
+    (0x0032_001f_40be_4020, 2, 51),
+    // spare bit 57
+    (0x0032_001f_40be_4040, 2, 51),
+    // spare bit 56
+    (0x0032_001f_40be_4080, 2, 51),
+    // spare bit 55
+    (0x0032_001f_40be_4100, 2, 51),
+    // spare bit 54
+    (0x0032_001f_40be_4200, 2, 51),
+    // spare bit 53
+    (0x0032_001f_40be_4400, 2, 51),
+    // spare bit 52
+    (0x0032_001f_40be_4800, 2, 51),
+    // spare bit 51
+    (0x0032_001f_40be_5000, 2, 51),
+    // a 2 before a 3
+    (0xc350_801f_40be_4001, 2, 51),
+];
+
+#[test]
+fn accepted_octets(rt: HostRuntime) {
+    for octets in ACCEPTED {
+        accepted::<PortRecord>(&rt, &octets.to_be_bytes());
+    }
 }
 
 #[test]
-fn edges(rt: HostRuntime) {
-    for case in &CASES {
-        let octets = case.octets.to_be_bytes();
-        let octets = &octets[0..8];
-        match PortRecord::read(3, octets) {
-            Ok(record) => {
-                assert_eq!(rt; case.number, 0);
-                writes(&rt, &record, octets);
-            }
-            Err(fault) => {
-                let refusal = fault.refusal();
-                assert_eq!(rt; refusal.number, case.number);
-                assert_eq!(rt; refusal.place.index, 3);
-                assert_eq!(rt; refusal.place.bit, case.bit);
-            }
-        }
+fn refused_octets(rt: HostRuntime) {
+    for (octets, number, bit) in REFUSED {
+        refused::<PortRecord>(&rt, &octets.to_be_bytes(), number, bit);
     }
 }
