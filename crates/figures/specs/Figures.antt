@@ -1,13 +1,11 @@
 -- Worked figures: of the wire times, and of a plan on two ports at 1,000 Mb/s.
 -- Assumes nothing.
-use Rattle.std.specs.Prelude.{◌≡◌, ℕ, ◌≤◌, List, [], ◌∷◌, ◌++◌, length, take, replicate, Ok, Err, codes, Result}
+use Rattle.std.specs.Prelude.{◌≡◌, ℕ, ◌≤◌, List, [], ◌∷◌, ◌++◌, length, take, replicate, Some, None, Ok, Err, codes, Option, Result}
 use Rattle.fault.specs.declared.kinds.PlanFault.{PlanFault}
 use Rattle.fault.specs.declared.kinds.PlanFault.TheVariants.{Deadline, Taken}
 use Rattle.fault.specs.Refusals.{refused}
 use Rattle.line.specs.Figures.{LineFigures}
 use Rattle.sheet.specs.declared.flow.FlowRecord.{FlowRecord}
-use Rattle.sheet.specs.declared.flow.Start.{Start}
-use Rattle.sheet.specs.declared.flow.Start.TheVariants.{Chosen, Free}
 use Rattle.sheet.specs.declared.port.PortRecord.{PortRecord}
 use Rattle.sheet.specs.Fields.{octets}
 use Rattle.sheet.specs.Flows.{written_flow}
@@ -30,7 +28,7 @@ abbrev pub port_record : PortRecord
 port_record = record { delay = 100; processing = 1_000; best_effort = 1_522 }
 
 -- the record of a flow of number n, length l, period T, deadline D and start s over a route
-abbrev pub flow_record : ℕ → ℕ → ℕ → ℕ → Start → List ℕ → FlowRecord
+abbrev pub flow_record : ℕ → ℕ → ℕ → ℕ → Option ℕ → List ℕ → FlowRecord
 flow_record n l T D s route =
     record { number = n; length = l; period = T; deadline = D; start = s; hops = length route; ports = take 8 (route ++ replicate 8 0) }
 
@@ -52,15 +50,15 @@ IsRefusal r e n = (r ≡ Err e) × ((refused e).number ≡ n)
 
 -- a flow over both ports, with deadline D
 abbrev pub flow_7 : ℕ → FlowRecord
-flow_7 D = flow_record 7 100 500_000 D Free (0 ∷ 1 ∷ [])
+flow_7 D = flow_record 7 100 500_000 D None (0 ∷ 1 ∷ [])
 
 -- one on port 1
 abbrev pub flow_9 : FlowRecord
-flow_9 = flow_record 9 1_000 1_000_000 20_000 Free (1 ∷ [])
+flow_9 = flow_record 9 1_000 1_000_000 20_000 None (1 ∷ [])
 
 -- one on port 0, whose period does not divide the cycle
 abbrev pub flow_11 : FlowRecord
-flow_11 = flow_record 11 64 300_000 20_000 Free (0 ∷ [])
+flow_11 = flow_record 11 64 300_000 20_000 None (0 ∷ [])
 
 -- the input of the worked case
 abbrev pub case_input : List ℕ
@@ -92,11 +90,11 @@ case_octets = 0x00 ∷ 0x00 ∷ 0x00 ∷ 0x07 ∷ 0xac ∷ 0x80 ∷ 0x00 ∷ 0x0
 
 -- a further flow on port 1, with the chosen start s
 abbrev pub flow_13 : ℕ → FlowRecord
-flow_13 s = flow_record 13 100 500_000 20_000 (Chosen s) (1 ∷ [])
+flow_13 s = flow_record 13 100 500_000 20_000 (Some s) (1 ∷ [])
 
 -- a flow on port 0, with number n, period T and the chosen start s
 abbrev pub repeating : ℕ → ℕ → ℕ → FlowRecord
-repeating n T s = flow_record n 100 T 20_000 (Chosen s) (0 ∷ [])
+repeating n T s = flow_record n 100 T 20_000 (Some s) (0 ∷ [])
 
 -- in a cycle of 1,200,000 two flows, of periods 400,000 and 300,000 and starts 0 and 200,000, meet in frame 2 of each alone, at 800,000: the second is refused
 pub record AllRepetitions : Type 0 where

@@ -1,16 +1,19 @@
 // The worked case: two ports at 1,000 Mb/s, cycle 1,000,000, flows 7, 9 and 11.
-use crate::records::{check_list, flow, gigabit, offer, offer_at};
+use crate::records::{check_list, gigabit, offer, offer_at};
 use fault::PlanFault;
 use line::Ethernet;
 use plan::Plan;
-use sheet::GateState;
+use sheet::{FlowRecord, GateState};
 use std::test::Fail;
 
 // Flows 7 and 9 held.
 fn held() -> Result<Plan<Ethernet>, PlanFault> {
     let mut plan = gigabit(1_000_000)?;
-    offer(&mut plan, flow(7, 100, 500_000, 20_000, &[0, 1]))?;
-    offer(&mut plan, flow(9, 1_000, 1_000_000, 20_000, &[1]))?;
+    offer(&mut plan, FlowRecord::new(7, 100, 500_000, 20_000, &[0, 1]))?;
+    offer(
+        &mut plan,
+        FlowRecord::new(9, 1_000, 1_000_000, 20_000, &[1]),
+    )?;
     Ok(plan)
 }
 
@@ -20,7 +23,7 @@ fn starts_and_flowspan(rt: HostRuntime) -> Result<(), Fail> {
     assert_eq!(rt; plan.start_of(7)?, 0);
     assert_eq!(rt; plan.start_of(9)?, 2_828);
     assert_eq!(rt;
-        offer(&mut plan, flow(11, 64, 300_000, 20_000, &[0])),
+        offer(&mut plan, FlowRecord::new(11, 64, 300_000, 20_000, &[0])),
         Err(PlanFault::Period)
     );
     assert_eq!(rt; plan.flowspan()?, 10_992);
@@ -57,7 +60,7 @@ fn gate_list_of_port_1(rt: HostRuntime) -> Result<(), Fail> {
 
 #[test]
 fn chosen_starts(rt: HostRuntime) -> Result<(), Fail> {
-    let probe = flow(20, 100, 500_000, 20_000, &[1]);
+    let probe = FlowRecord::new(20, 100, 500_000, 20_000, &[1]);
     let starts = [
         (10_892, Ok(10_892)),
         (10_891, Err(PlanFault::Taken)),

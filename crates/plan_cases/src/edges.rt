@@ -1,9 +1,9 @@
 // Edges of the checks, of overlap over all repetitions, and of the longest gate list.
-use crate::records::{ethernet, flow, gigabit, offer, offer_at, two_ports};
+use crate::records::{ethernet, gigabit, offer, offer_at, two_ports};
 use fault::PlanFault;
 use line::Ethernet;
 use plan::Plan;
-use sheet::PortRecord;
+use sheet::{FlowRecord, PortRecord};
 use std::test::Fail;
 
 #[test]
@@ -11,26 +11,29 @@ fn limits_of_an_offer(rt: HostRuntime) -> Result<(), Fail> {
     let mut plan = gigabit(1_000_000)?;
     let offers = [
         (
-            flow(7, 100, 500_000, 2_927, &[0, 1]),
+            FlowRecord::new(7, 100, 500_000, 2_927, &[0, 1]),
             Err(PlanFault::Deadline),
         ),
-        (flow(7, 100, 500_000, 2_928, &[0, 1]), Ok(0)),
+        (FlowRecord::new(7, 100, 500_000, 2_928, &[0, 1]), Ok(0)),
         (
-            flow(7, 100, 500_000, 2_928, &[0, 1]),
+            FlowRecord::new(7, 100, 500_000, 2_928, &[0, 1]),
             Err(PlanFault::NumberHeld),
         ),
-        (flow(8, 100, 62_500, 20_000, &[0]), Ok(864)),
-        (flow(9, 100, 50_000, 20_000, &[0]), Err(PlanFault::Period)),
+        (FlowRecord::new(8, 100, 62_500, 20_000, &[0]), Ok(864)),
         (
-            flow(9, 100, 500_000, 20_000, &[1, 2]),
+            FlowRecord::new(9, 100, 50_000, 20_000, &[0]),
+            Err(PlanFault::Period),
+        ),
+        (
+            FlowRecord::new(9, 100, 500_000, 20_000, &[1, 2]),
             Err(PlanFault::Route { hop: 1 }),
         ),
         (
-            flow(9, 100, 500_000, 20_000, &[1, 0, 1]),
+            FlowRecord::new(9, 100, 500_000, 20_000, &[1, 0, 1]),
             Err(PlanFault::Route { hop: 2 }),
         ),
         (
-            flow(9, 1_523, 500_000, 20_000, &[1]),
+            FlowRecord::new(9, 1_523, 500_000, 20_000, &[1]),
             Err(PlanFault::Length),
         ),
     ];
@@ -44,15 +47,23 @@ fn limits_of_an_offer(rt: HostRuntime) -> Result<(), Fail> {
 fn all_repetitions_count(rt: HostRuntime) -> Result<(), Fail> {
     let mut plan = gigabit(1_200_000)?;
     assert_eq!(rt;
-        offer_at(&mut plan, flow(1, 100, 400_000, 20_000, &[0]), 0),
+        offer_at(&mut plan, FlowRecord::new(1, 100, 400_000, 20_000, &[0]), 0),
         Ok(0)
     );
     assert_eq!(rt;
-        offer_at(&mut plan, flow(2, 100, 300_000, 20_000, &[0]), 200_000),
+        offer_at(
+            &mut plan,
+            FlowRecord::new(2, 100, 300_000, 20_000, &[0]),
+            200_000
+        ),
         Err(PlanFault::Taken)
     );
     assert_eq!(rt;
-        offer_at(&mut plan, flow(2, 100, 300_000, 20_000, &[0]), 200_864),
+        offer_at(
+            &mut plan,
+            FlowRecord::new(2, 100, 300_000, 20_000, &[0]),
+            200_864
+        ),
         Ok(200_864)
     );
     Ok(())
@@ -66,13 +77,16 @@ fn a_frame_as_long_as_its_period(rt: HostRuntime) -> Result<(), Fail> {
         best_effort: 64,
     };
     let mut plan = two_ports(ethernet(&[1, 1])?, 57_600, port)?;
-    assert_eq!(rt; offer(&mut plan, flow(1, 64, 57_600, 60_000, &[0])), Ok(0));
+    assert_eq!(rt;
+        offer(&mut plan, FlowRecord::new(1, 64, 57_600, 60_000, &[0])),
+        Ok(0)
+    );
     let mut buffer = [0; 5];
     assert_eq!(rt; plan.gate_list(0, &mut buffer)?, 1);
     assert!(rt; buffer == [0x80, 0, 0, 0xe1, 0]);
     let mut plan = two_ports(ethernet(&[1, 1])?, 57_599, port)?;
     assert_eq!(rt;
-        offer(&mut plan, flow(1, 64, 57_599, 60_000, &[0])),
+        offer(&mut plan, FlowRecord::new(1, 64, 57_599, 60_000, &[0])),
         Err(PlanFault::WireTime { hop: 0 })
     );
     Ok(())
@@ -86,14 +100,17 @@ fn the_longest_gate_list(rt: HostRuntime) -> Result<(), Fail> {
         assert_eq!(rt;
             offer_at(
                 &mut plan,
-                flow(number, 100, 62_500_000, 20_000, &[0]),
+                FlowRecord::new(number, 100, 62_500_000, 20_000, &[0]),
                 start,
             ),
             Ok(start)
         );
     }
     assert_eq!(rt;
-        offer(&mut plan, flow(65, 100, 62_500_000, 20_000, &[0])),
+        offer(
+            &mut plan,
+            FlowRecord::new(65, 100, 62_500_000, 20_000, &[0])
+        ),
         Err(PlanFault::Full)
     );
     let mut short = [0x55; 15_364];

@@ -4,10 +4,10 @@ ghost use Rattle.line.specs.Times.{carried};
 ghost use Rattle.std.proofs.Common.{arith, rules};
 ghost use Rattle.line.specs.Carried.{carried_within, carried_by_cases};
 
-use crate::records::{check_list, flow, offer, two_ports};
+use crate::records::{check_list, offer, two_ports};
 use fault::PlanFault;
 use line::Line;
-use sheet::{GateState, PortRecord};
+use sheet::{FlowRecord, GateState, PortRecord};
 use std::test::Fail;
 
 // Two ports that take 101 and 233 ns for every frame of 64 to 777 octets.
@@ -68,17 +68,23 @@ fn a_line_with_odd_times(rt: HostRuntime) -> Result<(), Fail> {
     };
     let mut plan = two_ports(Odd, 10_010, port)?;
     assert_eq!(rt;
-        offer(&mut plan, flow(1, 64, 5_005, 358, &[0, 1])),
+        offer(&mut plan, FlowRecord::new(1, 64, 5_005, 358, &[0, 1])),
         Err(PlanFault::Deadline)
     );
-    assert_eq!(rt; offer(&mut plan, flow(1, 64, 5_005, 359, &[0, 1])), Ok(0));
     assert_eq!(rt;
-        offer(&mut plan, flow(2, 777, 10_010, 1_000, &[1])),
+        offer(&mut plan, FlowRecord::new(1, 64, 5_005, 359, &[0, 1])),
+        Ok(0)
+    );
+    assert_eq!(rt;
+        offer(&mut plan, FlowRecord::new(2, 777, 10_010, 1_000, &[1])),
         Ok(352)
     );
-    assert_eq!(rt; offer(&mut plan, flow(3, 100, 5_005, 1_000, &[0])), Ok(101));
     assert_eq!(rt;
-        offer(&mut plan, flow(4, 778, 5_005, 1_000, &[0])),
+        offer(&mut plan, FlowRecord::new(3, 100, 5_005, 1_000, &[0])),
+        Ok(101)
+    );
+    assert_eq!(rt;
+        offer(&mut plan, FlowRecord::new(4, 778, 5_005, 1_000, &[0])),
         Err(PlanFault::Length)
     );
     assert_eq!(rt; plan.flowspan(), Ok(592));

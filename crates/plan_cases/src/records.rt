@@ -1,42 +1,10 @@
 // Records made for the tests, and offers of them.
-ghost use Rattle.std.specs.Prelude.{◌≡◌};
-ghost use Rattle.sheet.specs.declared.flow.Start.TheVariants.{Free};
-
 use fault::PlanFault;
 use line::{Ethernet, Line};
 use plan::Plan;
-use sheet::{
-    FlowRecord, GateRecord, GateState, PortRecord, Reader, RecordKind, Start, write_sheet,
-};
+use sheet::{FlowRecord, GateRecord, GateState, PortRecord, Reader, RecordKind, write_sheet};
 use std::process::Abort;
 use std::test::Fail;
-
-// A flow of a number, with no start chosen.
-pub fn flow(number: u16, length: u16, period: u32, deadline: u32, route: &[u8]) -> FlowRecord
-    ensures number { result.number ≡ number }
-    ensures free { result.start ≡ Free }
-{
-    let mut ports = [0; 8];
-    for (k, port) in route.iter().enumerate() {
-        if k < 8 {
-            ports[k] = *port;
-        }
-    }
-    let hops = if route.len() < 9 {
-        route.len() as u8
-    } else {
-        9
-    };
-    FlowRecord {
-        number,
-        length,
-        period,
-        deadline,
-        start: Start::Free,
-        hops,
-        ports,
-    }
-}
 
 // Offers one flow record.
 pub fn offer<L: Line>(plan: &mut Plan<L>, flow: FlowRecord) -> Result<u32, PlanFault> {
@@ -48,7 +16,7 @@ pub fn offer<L: Line>(plan: &mut Plan<L>, flow: FlowRecord) -> Result<u32, PlanF
 // Offers one flow record at a chosen start.
 pub fn offer_at<L: Line>(plan: &mut Plan<L>, flow: FlowRecord, s: u32) -> Result<u32, PlanFault> {
     let chosen = FlowRecord {
-        start: Start::Chosen(s),
+        start: Some(s),
         ..flow
     };
     offer(plan, chosen)

@@ -1,6 +1,6 @@
 // Edges of the flow record, and records that may not be written.
 use crate::edge::{accepted, refused, told};
-use sheet::{FlowRecord, RecordKind, Start};
+use sheet::{FlowRecord, RecordKind};
 use std::process::Abort;
 
 // The first 16 octets and the last 5.
@@ -96,7 +96,7 @@ const GOOD: FlowRecord = FlowRecord {
     length: 100,
     period: 500_000,
     deadline: 20_000,
-    start: Start::Free,
+    start: None,
     hops: 2,
     ports: [0, 1, 0, 0, 0, 0, 0, 0],
 };
@@ -128,7 +128,7 @@ fn refused_writings(rt: HostRuntime) {
     not_written(
         &rt,
         &FlowRecord {
-            start: Start::Chosen(1_000_000_000),
+            start: Some(1_000_000_000),
             ..GOOD
         },
         3,
