@@ -71,14 +71,14 @@ fn read_time(words: &[&str]) -> Option<Command>
     requires first { slice_index_or (texts words.now) 0 [] ≡ codes "time" }
     ensures understood { Understood (texts words.now) result }
 {
-    if words.len() != 4 {
-        return None;
-    }
-    let Ok(kind) = words[1].parse() else {
+    let [_, kind, port, length] = words else {
         return None;
     };
-    let port = number(words[2], 255)? as u8;
-    let length = number(words[3], 65535)? as u16;
+    let Ok(kind) = kind.parse() else {
+        return None;
+    };
+    let port = number(port, 255)? as u8;
+    let length = number(length, 65535)? as u16;
     Some(Command::WireTime { kind, port, length })
 }
 
