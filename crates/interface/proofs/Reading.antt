@@ -1,10 +1,12 @@
 -- Numbers and calls read from octets, and lists of calls one by one.
 -- Assumes nothing.
-use Rattle.std.proofs.Common.{◌≡◌, ℕ, zero, suc, ◌+◌, ◌*◌, ◌<◌, ◌≤◌, Bool, true, false, cond, eqb, leb, List, [], ◌∷◌, length, get_or, take, drop, Some, None, Option, sym, refl, ap, ◌∙◌, subst, arith, length-drop}
+use Rattle.std.proofs.Common.{◌≡◌, ℕ, zero, suc, ◌+◌, ◌*◌, ◌<◌, ◌≤◌, Bool, true, false, cond, eqb, leb, List, [], ◌∷◌, length, get_or, take, drop, Some, None, Ok, Option, Result, sym, refl, ap, ◌∙◌, subst, arith, length-drop}
 use Rattle.std.proofs.lemmas.Bool.{le-leb, cond-true}
 use Rattle.sheet.specs.Fields.{number}
 use Rattle.sheet.specs.Elements.{listed}
-use Rattle.interface.specs.Spoken.{Spoken, Front, turned, and_then, octets_of, number_of, sheet_of, call_of, first_call, before, calls_within, calls_of, set_up, offer, withdrawal, start_of, gate_list}
+use Rattle.plan.specs.declared.call.Call.{Call}
+use Rattle.interface.specs.declared.unperformed.Unperformed.{Unperformed}
+use Rattle.interface.specs.Spoken.{ReadsNext, Spoken, Front, spoken, turned, and_then, octets_of, number_of, sheet_of, call_of, first_call, before, calls_within, calls_of, set_up, offer, withdrawal, start_of, gate_list}
 
 -- four and eight octets as a number
 pub number_4 : (s : List ℕ) → length s ≡ 4 → number s ≡ get_or s 0 0 * 16777216 + get_or s 1 0 * 65536 + get_or s 2 0 * 256 + get_or s 3 0
@@ -70,6 +72,10 @@ call_leaves kind s =
 pub first_shorter : (s : List ℕ) (c : Spoken) (rest : List ℕ) → ◌≡◌ {A = Front Spoken} (Some (c, rest)) (first_call s) → length rest < length s
 first_shorter [] c rest is = absurd (let z : ◌≡◌ {A = ℕ} 0 1 = cc in omega arith)
 first_shorter (x ∷ s) c rest is = let less = subst (Leaves s) (sym is) (call_leaves x s) in omega arith
+
+-- a call that the iterator gives is the first
+pub first_call-next : (s : List ℕ) (r : Result Call Unperformed) (c : Call) (rest : List ℕ) → r ≡ Ok c → ReadsNext s (Some r) rest → ◌≡◌ {A = Front Spoken} (Some (spoken c, rest)) (first_call s)
+first_call-next s r c rest is read = subst (λ (x : Result Call Unperformed). ReadsNext s (Some x) rest) is read
 
 -- more calls than there are octets change nothing
 calls_enough : (n m : ℕ) (s : List ℕ) → length s ≤ n → length s ≤ m → calls_within n s ≡ calls_within m s

@@ -17,6 +17,7 @@ use Rattle.interface.specs.Performed.{came_to, done, returned_number}
 use Rattle.interface.specs.Spoken.{ReadsNext, call, calls_of, spoken}
 use Rattle.interface.proofs.Outcomes.{listed, not-counted, is-counted, performs, no-calls, no_room, all_done, not-refused, gone_through}
 use Rattle.interface.proofs.Performing.{Going, going-at-first, room-left, going_on}
+use Rattle.interface.proofs.Reading.{first_call-next}
 use Rattle.interface.proofs.perform.performed.Given as given
 use Rattle.interface.proofs.perform.performed.Goals as goal
 
@@ -74,7 +75,7 @@ write_answer-requires g c =
     let rest = (enumerate_source c.loop-index.index-iterator).0.now in
     let behind = (enumerate_source c.next.new.self).0.now in
     let steps = c.in-Some.ensures.steps in
-    let read = subst (λ (r : Result Call Unperformed). ReadsNext rest (Some r) behind) c.in_ok-call.was steps.0 in
+    let read = first_call-next rest c.in-Some.call c.in_ok-call.field-0 behind c.in_ok-call.was steps.0 in
     let turn = steps.1 in
     let many = (is-counted (calls_of calls) c.in_ok-count.count c.in_ok-count.ensures.value).1 in
     let room = room-left _ (listed (calls_of calls)) c.args.answers.now c.args.buffer.now (enumerate_count c.loop-index.index-iterator) rest _ c.loop-index.answers c.loop-index.buffer c.loop-index.invariant.1
@@ -90,7 +91,7 @@ loop-index-preserved g c =
     let rest = (enumerate_source c.loop-index.index-iterator).0.now in
     let behind = (enumerate_source c.next.new.self).0.now in
     let steps = c.in-Some.ensures.steps in
-    let read = subst (λ (r : Result Call Unperformed). ReadsNext rest (Some r) behind) c.in_ok-call.was steps.0 in
+    let read = first_call-next rest c.in-Some.call c.in_ok-call.field-0 behind c.in_ok-call.was steps.0 in
     let d = c.in_ok-call.field-0 in
     let plan = c.loop-index.plan in
     let m = model plan.setup plan.rows in
