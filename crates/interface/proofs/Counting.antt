@@ -1,6 +1,6 @@
 -- How many calls there are, one by one.
 -- Assumes nothing.
-use Rattle.std.proofs.Common.{◌≡◌, ℕ, ◌+◌, List, ◌∷◌, length, Some, None, Option, sym, refl, ap, ◌∙◌, zero-add, arith}
+use Rattle.std.proofs.Common.{◌≡◌, ℕ, ◌+◌, List, ◌∷◌, length, Some, None, Option, refl, ap, ◌∙◌, arith}
 use Rattle.interface.specs.Spoken.{Spoken, Front, first_call, before, calls_of, counted}
 use Rattle.interface.proofs.Reading.{calls-first}
 
@@ -8,10 +8,6 @@ use Rattle.interface.proofs.Reading.{calls-first}
 abbrev pub and_more : ℕ → Option ℕ → Option ℕ
 and_more n None = None
 and_more n (Some m) = Some (n + m)
-
-pub none_and_more : (o : Option ℕ) → o ≡ and_more 0 o
-none_and_more None = refl
-none_and_more (Some m) = ap Some (sym (zero-add m))
 
 -- one call more
 pub counts-one : (n : ℕ) (s : List ℕ) (c : Spoken) (rest : List ℕ) → ◌≡◌ {A = Front Spoken} (Some (c, rest)) (first_call s) →

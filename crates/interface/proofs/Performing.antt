@@ -100,39 +100,34 @@ module _ (w : Wires) (ss : List Spoken) (answers₀ buffer₀ : List ℕ) where
   abbrev pub answered : ℕ → List (Result Reply PlanFault)
   answered i = replies w empty (length buffer₀) (take i (map call ss))
 
-  -- the calls before octet `at` of the answers are performed, and the octets `rest` say the others
-  pub record Going (at : ℕ) (rest : List ℕ) (m : Model) (answers buffer : List ℕ) : Type 0 where
-    pub turn : ℕ
-    pub place : at ≡ 16 * turn
+  -- the first calls are performed, and the octets `rest` say the others
+  pub record Going (turn : ℕ) (rest : List ℕ) (m : Model) (answers buffer : List ℕ) : Type 0 where
     pub few : turn ≤ length ss
     pub left : calls_of rest ≡ Some (drop turn ss)
     pub alike : Alike m (after w empty (take turn (map call ss)))
-    pub told : answers ≡ answers_octets (answered turn) ++ drop at answers₀
+    pub told : answers ≡ answers_octets (answered turn) ++ drop (16 * turn) answers₀
     pub wrote : buffer ≡ buffered w empty buffer₀ (take turn (map call ss))
 
   -- before the first call
   pub going-at-first : (octets : List ℕ) (m : Model) → calls_of octets ≡ Some ss → Alike m empty → Going 0 octets m answers₀ buffer₀
-  going-at-first octets m is alike = record { turn = 0; place = refl; few = omega arith; left = is; alike = alike; told = refl; wrote = refl }
+  going-at-first octets m is alike = record { few = omega arith; left = is; alike = alike; told = refl; wrote = refl }
 
   -- while a call is left, its answer has room
-  pub room-left : (at : ℕ) (rest : List ℕ) (m : Model) (answers buffer : List ℕ) → Going at rest m answers buffer → (s : Spoken) (behind : List ℕ) → ◌≡◌ {A = Front Spoken} (Some (s, behind)) (first_call rest) → at + 16 ≤ 16 * length ss
-  room-left at rest m answers buffer g s behind read =
-      let more = next-call ss g.turn s (calls_of behind) (sym (calls-first rest s behind read) ∙ g.left) in
+  pub room-left : (i : ℕ) (rest : List ℕ) (m : Model) (answers buffer : List ℕ) → Going i rest m answers buffer → (s : Spoken) (behind : List ℕ) → ◌≡◌ {A = Front Spoken} (Some (s, behind)) (first_call rest) → 16 * i + 16 ≤ 16 * length ss
+  room-left i rest m answers buffer g s behind read =
+      let more = next-call ss i s (calls_of behind) (sym (calls-first rest s behind read) ∙ g.left) in
       let below = more.2.below in
-      let place = g.place in
       omega arith
 
   -- one call more
-  pub going_on : Rules w.most w.meaning → (at : ℕ) (rest : List ℕ) (m : Model) (answers buffer : List ℕ) → Going at rest m answers buffer →
+  pub going_on : Rules w.most w.meaning → (i n j : ℕ) → n ≡ i → j ≡ i + 1 → (rest : List ℕ) (m : Model) (answers buffer : List ℕ) → Going i rest m answers buffer →
       (c : Call) (behind : List ℕ) → ◌≡◌ {A = Front Spoken} (Some (spoken c, behind)) (first_call rest) →
       (m' : Model) (r : Result Reply PlanFault) (answers' buffer' : List ℕ) →
-      Alike m' (next w m c) → r ≡ reply w m (length buffer₀) c → buffer' ≡ written w m buffer c → answers' ≡ take at answers ++ (answer_octets r ++ drop (at + 16) answers) →
-      Going (at + 16) behind m' answers' buffer'
-  going_on rules at rest m answers buffer g c behind read m' r answers' buffer' left replied wrote put =
-      let i = g.turn in
+      Alike m' (next w m c) → r ≡ reply w m (length buffer₀) c → buffer' ≡ written w m buffer c → answers' ≡ take (16 * n) answers ++ (answer_octets r ++ drop (16 * n + 16) answers) →
+      Going j behind m' answers' buffer'
+  going_on rules i n j at next rest m answers buffer g c behind read m' r answers' buffer' left replied wrote put =
       let s = spoken c in
       let cs = map call ss in
-      let place = g.place in
       let more = next-call ss i s (calls_of behind) (sym (calls-first rest s behind read) ∙ g.left) in
       let below = more.2.below in
       let many = length-map ss call in
@@ -143,14 +138,14 @@ module _ (w : Wires) (ss : List Spoken) (answers₀ buffer₀ : List ℕ) where
       let first : length (take i cs) ≡ i = length-take-le i cs (omega arith) in
       let long = length-answers (answered i) in
       let count = length-replies w empty (length buffer₀) (take i cs) in
-      let full : length (answers_octets (answered i)) ≡ at = omega arith in
+      let full : length (answers_octets (answered i)) ≡ 16 * i = omega arith in
+      let end : 16 * i + 16 ≡ 16 * j = omega arith in
+      let ahead : take (i + 1) cs ≡ take j cs = ap (λ (k : ℕ). take k cs) (sym next) in
       record {
-        turn = i + 1;
-        place = omega arith;
         few = omega arith;
-        left = more.1 ∙ ap Some more.2.rest;
-        alike = step.0;
-        told = put ∙ over (answers_octets (answered i)) (answer_octets r) answers₀ at 16 answers full (length-answer r) g.told
-            ∙ ap (λ (xs : List ℕ). xs ++ drop (at + 16) answers₀) (sym (answers_push (answered i) r) ∙ ap answers_octets step.1);
-        wrote = step.2;
+        left = more.1 ∙ ap Some more.2.rest ∙ ap (λ (k : ℕ). Some (drop k ss)) (sym next);
+        alike = subst (λ (ds : List Call). Alike m' (after w empty ds)) ahead step.0;
+        told = put ∙ (λ k. take (16 * at k) answers ++ (answer_octets r ++ drop (16 * at k + 16) answers)) ∙ over (answers_octets (answered i)) (answer_octets r) answers₀ (16 * i) 16 answers full (length-answer r) g.told
+            ∙ (λ k. (sym (answers_push (answered i) r) ∙ ap answers_octets (step.1 ∙ ap (replies w empty (length buffer₀)) ahead)) k ++ drop (end k) answers₀);
+        wrote = step.2 ∙ ap (buffered w empty buffer₀) ahead;
       }

@@ -1,27 +1,28 @@
 -- Numbers and calls read from octets, and lists of calls one by one.
 -- Assumes nothing.
-use Rattle.std.proofs.Common.{◌≡◌, ℕ, zero, suc, ◌+◌, ◌*◌, ◌<◌, ◌≤◌, Bool, true, false, cond, eqb, leb, List, [], ◌∷◌, length, get_or, take, drop, Some, None, Option, sym, refl, ap, ◌∙◌, subst, arith, length-drop, length-take}
+use Rattle.std.proofs.Common.{◌≡◌, ℕ, zero, suc, ◌+◌, ◌*◌, ◌<◌, ◌≤◌, Bool, true, false, cond, eqb, leb, List, [], ◌∷◌, length, get_or, take, drop, Some, None, Ok, Option, Result, sym, refl, ap, ◌∙◌, subst, arith, length-drop}
 use Rattle.std.proofs.lemmas.Bool.{le-leb, cond-true}
 use Rattle.sheet.specs.Fields.{number}
 use Rattle.sheet.specs.Elements.{listed}
-use Rattle.interface.specs.Spoken.{Spoken, Front, turned, and_then, octets_of, number_of, sheet_of, call_of, first_call, before, calls_within, calls_of, set_up, offer, withdrawal, start_of, gate_list}
+use Rattle.plan.specs.declared.call.Call.{Call}
+use Rattle.interface.specs.declared.unperformed.Unperformed.{Unperformed}
+use Rattle.interface.specs.Spoken.{ReadsNext, Spoken, Front, spoken, turned, and_then, octets_of, number_of, sheet_of, call_of, first_call, before, calls_within, calls_of, set_up, offer, withdrawal, start_of, gate_list}
 
--- eight octets as a number
-number_8 : (s : List ℕ) → length s ≡ 8 →
+-- four and eight octets as a number
+pub number_4 : (s : List ℕ) → length s ≡ 4 → number s ≡ get_or s 0 0 * 16777216 + get_or s 1 0 * 65536 + get_or s 2 0 * 256 + get_or s 3 0
+number_4 s long = ap number (listed 4 s long) ∙ omega arith
+
+pub number_8 : (s : List ℕ) → length s ≡ 8 →
     number s ≡ get_or s 0 0 * 72057594037927936 + get_or s 1 0 * 281474976710656 + get_or s 2 0 * 1099511627776 + get_or s 3 0 * 4294967296 + get_or s 4 0 * 16777216 + get_or s 5 0 * 65536 + get_or s 6 0 * 256 + get_or s 7 0
 number_8 s long = ap number (listed 8 s long) ∙ omega arith
 
 pub octets-cut : (n : ℕ) (s : List ℕ) → n ≤ length s → octets_of n s ≡ Some (take n s, drop n s)
 octets-cut n s le = cond-true {A = Front (List ℕ)} (leb n (length s)) _ _ (le-leb n (length s) le)
 
-pub read_8 : (s front rest : List ℕ) (n : ℕ) → front ≡ take 8 s → rest ≡ drop 8 s → 8 ≤ length s →
-    n ≡ get_or front 0 0 * 72057594037927936 + get_or front 1 0 * 281474976710656 + get_or front 2 0 * 1099511627776 + get_or front 3 0 * 4294967296 + get_or front 4 0 * 16777216 + get_or front 5 0 * 65536 + get_or front 6 0 * 256 + get_or front 7 0 →
-    ◌≡◌ {A = Front ℕ} (Some (n, rest)) (number_of 8 s)
-read_8 s front rest n is behind long value =
-    let cut = ap length is ∙ length-take 8 s in
-    let eight : length front ≡ 8 = omega arith in
-    let same : n ≡ number (take 8 s) = value ∙ sym (number_8 front eight) ∙ ap number is in
-    (λ i. Some (same i, behind i)) ∙ sym (ap (turned number) (octets-cut 8 s long))
+-- the number of the first n octets is the number that is read
+pub number_of-cut : (n : ℕ) (s front rest : List ℕ) → front ≡ take n s → rest ≡ drop n s → n ≤ length s → number_of n s ≡ Some (number front, rest)
+number_of-cut n s front rest is behind long =
+    ap (turned number) (octets-cut n s long) ∙ (λ i. Some (number (sym is i), sym behind i))
 
 -- what is read leaves no more octets than there were
 abbrev Leaves : {A : Type 0} → List ℕ → Front A → Type 0
@@ -71,6 +72,10 @@ call_leaves kind s =
 pub first_shorter : (s : List ℕ) (c : Spoken) (rest : List ℕ) → ◌≡◌ {A = Front Spoken} (Some (c, rest)) (first_call s) → length rest < length s
 first_shorter [] c rest is = absurd (let z : ◌≡◌ {A = ℕ} 0 1 = cc in omega arith)
 first_shorter (x ∷ s) c rest is = let less = subst (Leaves s) (sym is) (call_leaves x s) in omega arith
+
+-- a call that the iterator gives is the first
+pub first_call-next : (s : List ℕ) (r : Result Call Unperformed) (c : Call) (rest : List ℕ) → r ≡ Ok c → ReadsNext s (Some r) rest → ◌≡◌ {A = Front Spoken} (Some (spoken c, rest)) (first_call s)
+first_call-next s r c rest is read = subst (λ (x : Result Call Unperformed). ReadsNext s (Some x) rest) is read
 
 -- more calls than there are octets change nothing
 calls_enough : (n m : ℕ) (s : List ℕ) → length s ≤ n → length s ≤ m → calls_within n s ≡ calls_within m s

@@ -1,12 +1,21 @@
 -- What octets that say calls come to on a new plan: the number that is returned, and what the answers and the buffer hold then.
 -- Assumes nothing.
-use Rattle.std.specs.Prelude.{◌≡◌, ℕ, ◌*◌, cond, List, [], ◌++◌, map, length, drop, ℤ, pos, negsuc, Some, None, Option, nat_le}
+use Rattle.std.specs.Prelude.{◌≡◌, ℕ, ◌*◌, cond, List, [], ◌++◌, map, length, drop, ℤ, pos, negsuc, Some, None, Ok, Err, Option, Result, nat_le}
 use Rattle.plan.specs.declared.call.Call.{Call}
 use Rattle.plan.specs.Calls.{Wires, empty}
 use Rattle.plan.specs.Promise.{Assures, ListsFit}
 use Rattle.plan.specs.Steps.{after, replies, buffered}
+use Rattle.interface.specs.declared.unperformed.Unperformed.{Unperformed}
+use Rattle.interface.specs.declared.unperformed.Unperformed.TheVariants.{Line, Calls, Room}
 use Rattle.interface.specs.Answers.{answers_octets}
 use Rattle.interface.specs.Spoken.{Spoken, call, calls_of}
+
+-- what is returned for a number of calls, and for why none is performed
+abbrev pub returned_number : Result ℕ Unperformed → ℤ
+returned_number (Ok n) = pos n
+returned_number (Err Line) = negsuc 0
+returned_number (Err Calls) = negsuc 1
+returned_number (Err Room) = negsuc 2
 
 -- what is returned, and what the answers and the buffer hold then
 pub record Outcome : Type 0 where

@@ -1,10 +1,12 @@
 -- Calls in octets: the call at the front of a list of octets, and lists of calls back to back.
 -- Assumes nothing.
-use Rattle.std.specs.Prelude.{ℕ, zero, suc, cond, List, [], ◌∷◌, length, take, drop, Some, None, Option, ◌==◌, nat_le}
+use Rattle.std.specs.Prelude.{◌≡◌, ◌≢◌, ℕ, zero, suc, cond, List, [], ◌∷◌, length, take, drop, Some, None, Ok, Err, Option, Result, ◌==◌, nat_le}
 use Rattle.std.specs.Borrow.{Bor}
 use Rattle.sheet.specs.Fields.{number}
 use Rattle.plan.specs.declared.call.Call.{Call}
 use Rattle.plan.specs.declared.call.Call.TheVariants.{SetUp, Offer, Withdraw, StartOf, Flowspan, GateList}
+use Rattle.interface.specs.declared.unperformed.Unperformed.{Unperformed}
+use Rattle.interface.specs.declared.unperformed.Unperformed.TheVariants.{Calls}
 
 -- a call with the octets of its sheet
 pub data Spoken : Type 0 where
@@ -83,6 +85,12 @@ call_of kind s =
 abbrev pub first_call : List ℕ → Front Spoken
 first_call [] = None
 first_call (kind ∷ s) = call_of kind s
+
+-- the next call of a list of octets, and the octets behind it; nothing at the end, and a refusal once where there is no call
+abbrev pub ReadsNext : List ℕ → Option (Result Call Unperformed) → List ℕ → Type 0
+ReadsNext s None rest = (s ≡ []) × (rest ≡ [])
+ReadsNext s (Some (Ok c)) rest = Some (spoken c, rest) ≡ first_call s
+ReadsNext s (Some (Err e)) rest = (e ≡ Calls) × (s ≢ []) × (None ≡ first_call s) × (rest ≡ [])
 
 -- a call before others
 abbrev pub before : Spoken → Option (List Spoken) → Option (List Spoken)

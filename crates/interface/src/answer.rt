@@ -1,6 +1,6 @@
 // The 16 octets of an answer.
 ghost use Rattle.std.specs.Prelude.{◌≡◌};
-ghost use Rattle.interface.specs.Answers.{layer_octet, done_octets, reply_octets, refusal_octets, answer_octets};
+ghost use Rattle.interface.specs.Answers.{layer_octet, reply_octets, refusal_octets, answer_octets};
 
 use fault::{Layer, Refusal};
 use plan::{Answer, Reply};
@@ -17,25 +17,23 @@ pub(crate) fn answer_octets(answer: Answer) -> [u8; SIZE]
     }
 }
 
+// What a call that was done answers: what its number is, and its number.
 fn reply_octets(reply: Reply) -> [u8; SIZE]
     ensures value { result ≡ reply_octets reply }
 {
-    match reply {
-        Reply::Done => done_octets(0, 0),
-        Reply::Start(start) => done_octets(1, start.into()),
-        Reply::Span(span) => done_octets(2, span.into()),
-        Reply::Records(count) => done_octets(3, count as u64),
-    }
+    let (kind, number): (u8, u64) = match reply {
+        Reply::Done => (0, 0),
+        Reply::Start(start) => (1, start.into()),
+        Reply::Span(span) => (2, span.into()),
+        Reply::Records(count) => (3, count as u64),
+    };
+    let mut octets = [0; SIZE];
+    octets[0] = kind;
+    octets[8..].copy_from_slice(&number.to_be_bytes());
+    octets
 }
 
-// What a call that was done answers: what its number is, and its number.
-fn done_octets(kind: u8, number: u64) -> [u8; SIZE]
-    ensures value { result ≡ done_octets kind number }
-{
-    let [a, b, c, d, e, f, g, h] = number.to_be_bytes();
-    [kind, 0, 0, 0, 0, 0, 0, 0, a, b, c, d, e, f, g, h]
-}
-
+// The octet of a layer in the format for C.
 fn layer_octet(layer: Layer) -> u8
     ensures value { result ≡ layer_octet layer }
 {
@@ -50,25 +48,12 @@ fn refusal_octets(refusal: Refusal) -> [u8; SIZE]
     ensures value { result ≡ refusal_octets refusal }
 {
     let place = refusal.place;
-    let layer = layer_octet(refusal.layer);
-    let [x, y] = place.bit.to_be_bytes();
-    let [a, b, c, d, e, f, g, h] = place.index.to_be_bytes();
-    [
-        0xff,
-        refusal.number,
-        layer,
-        place.hop,
-        x,
-        y,
-        0,
-        0,
-        a,
-        b,
-        c,
-        d,
-        e,
-        f,
-        g,
-        h,
-    ]
+    let mut octets = [0; SIZE];
+    octets[0] = 0xff;
+    octets[1] = refusal.number;
+    octets[2] = layer_octet(refusal.layer);
+    octets[3] = place.hop;
+    octets[4..6].copy_from_slice(&place.bit.to_be_bytes());
+    octets[8..].copy_from_slice(&place.index.to_be_bytes());
+    octets
 }

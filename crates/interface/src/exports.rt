@@ -1,14 +1,12 @@
-// Calls in octets on a plan on either line.
-ghost use Rattle.std.specs.Prelude.{◌≡◌, negsuc};
+// The functions for a program in C: calls in octets on a plan on either line.
+ghost use Rattle.std.specs.Prelude.{◌≡◌, ◌^◌, ◌<◌, negsuc, IfOk};
 ghost use Rattle.line.specs.Fillings.{Codes, Cells};
 ghost use Rattle.interface.specs.Lines.{ethernet, cells};
-ghost use Rattle.interface.specs.Performed.{Performs, came_to};
+ghost use Rattle.interface.specs.Performed.{Performs, came_to, returned_number};
 
-use crate::lines::{cell_line, ethernet_line};
 use crate::perform::performed;
-
-// The filling of the line is refused.
-const NO_LINE: i64 = -1;
+use crate::unperformed::Unperformed;
+use line::{Cell, Ethernet};
 
 // Calls on a plan on an Ethernet line with these rate codes.
 pub fn givrethans_perform_ethernet(
@@ -20,10 +18,7 @@ pub fn givrethans_perform_ethernet(
     ensures performs { Codes codes.now → Performs (ethernet codes.now) calls.now answers.old buffer.old (came_to result answers.new buffer.new) }
     ensures refused { (Codes codes.now → ⊥) → came_to result answers.new buffer.new ≡ came_to (negsuc 0) answers.old buffer.old }
 {
-    let Some(line) = ethernet_line(codes) else {
-        return NO_LINE;
-    };
-    performed(line, calls, answers, buffer)
+    returned_number(perform_ethernet(codes, calls, answers, buffer))
 }
 
 // Calls on a plan on a cell line with these figures.
@@ -38,8 +33,51 @@ pub fn givrethans_perform_cells(
     ensures performs { Cells ports cell_size cell_time → Performs (cells ports cell_size cell_time) calls.now answers.old buffer.old (came_to result answers.new buffer.new) }
     ensures refused { (Cells ports cell_size cell_time → ⊥) → came_to result answers.new buffer.new ≡ came_to (negsuc 0) answers.old buffer.old }
 {
-    let Some(line) = cell_line(ports, cell_size, cell_time) else {
-        return NO_LINE;
-    };
+    returned_number(perform_cells(ports, cell_size, cell_time, calls, answers, buffer))
+}
+
+// The calls on an Ethernet line, or why none is performed.
+fn perform_ethernet(
+    codes: &[u8],
+    calls: &[u8],
+    answers: &mut [u8],
+    buffer: &mut [u8],
+) -> Result<usize, Unperformed>
+    ensures performs { Codes codes.now → Performs (ethernet codes.now) calls.now answers.old buffer.old (came_to (returned_number result) answers.new buffer.new) }
+    ensures refused { (Codes codes.now → ⊥) → came_to (returned_number result) answers.new buffer.new ≡ came_to (negsuc 0) answers.old buffer.old }
+    ensures few { IfOk result (λ count. count < 2 ^ 63) }
+{
+    let mut line = Ethernet::new();
+    line.fill(codes).map_err(|_| Unperformed::Line)?;
     performed(line, calls, answers, buffer)
+}
+
+// The calls on a cell line, or why none is performed.
+fn perform_cells(
+    ports: u8,
+    cell_size: u16,
+    cell_time: u32,
+    calls: &[u8],
+    answers: &mut [u8],
+    buffer: &mut [u8],
+) -> Result<usize, Unperformed>
+    ensures performs { Cells ports cell_size cell_time → Performs (cells ports cell_size cell_time) calls.now answers.old buffer.old (came_to (returned_number result) answers.new buffer.new) }
+    ensures refused { (Cells ports cell_size cell_time → ⊥) → came_to (returned_number result) answers.new buffer.new ≡ came_to (negsuc 0) answers.old buffer.old }
+    ensures few { IfOk result (λ count. count < 2 ^ 63) }
+{
+    let mut line = Cell::new();
+    line.fill(ports, cell_size, cell_time)
+        .map_err(|_| Unperformed::Line)?;
+    performed(line, calls, answers, buffer)
+}
+
+// The number that a program in C gets: the only place where a refusal becomes one.
+fn returned_number(outcome: Result<usize, Unperformed>) -> i64
+    requires { IfOk outcome (λ count. count < 2 ^ 63) }
+    ensures value { result ≡ returned_number outcome }
+{
+    match outcome {
+        Ok(count) => count as i64,
+        Err(why) => why as i64,
+    }
 }

@@ -2,11 +2,12 @@
 #![tactic(auto)]
 
 mod answer;
+mod calls;
 mod exports;
 mod formats;
-mod lines;
 mod perform;
 mod read;
+mod unperformed;
 
 pub use exports::{givrethans_perform_cells, givrethans_perform_ethernet};
 pub use formats::calls_read_back;

@@ -1,40 +1,35 @@
 // A list of calls in octets, performed on a new plan.
-ghost use Rattle.std.specs.Prelude.{◌≡◌, ◌+◌, ◌≤◌, ◌++◌, length, take, drop};
+ghost use Rattle.std.specs.Prelude.{◌≡◌, ◌+◌, ◌*◌, ◌^◌, ◌<◌, ◌≤◌, ◌++◌, length, take, drop, IfOk};
+ghost use Rattle.std.specs.Option.{ok_or};
 ghost use Rattle.plan.specs.Models.{wires};
 ghost use Rattle.interface.specs.Answers.{answer_octets};
-ghost use Rattle.interface.specs.Performed.{Performs, came_to};
+ghost use Rattle.interface.specs.Performed.{Performs, came_to, returned_number};
 ghost use Rattle.interface.specs.Spoken.{calls_of, counted};
 
 use crate::answer::{SIZE, answer_octets};
-use crate::read::read_call;
+use crate::calls::Calls;
+use crate::unperformed::Unperformed;
 use line::Line;
 use plan::{Answer, Plan};
 
-// The octets are no list of calls.
-const NO_CALLS: i64 = -2;
-
-// The answers have no room.
-const NO_ROOM: i64 = -3;
-
 // How many calls the octets are, if they are a list of calls.
-fn call_count(calls: &[u8]) -> Option<usize>
-    ensures value { result ≡ counted (calls_of calls.now) }
+fn call_count(octets: &[u8]) -> Result<usize, Unperformed>
+    ensures value { result ≡ ok_or (counted (calls_of octets.now)) Unperformed.Calls }
 {
-    let mut rest = calls;
     let mut count = 0;
-    while !rest.is_empty() {
-        let (_, behind) = read_call(rest)?;
-        rest = behind;
+    for call in Calls(octets) {
+        call?;
         count += 1;
     }
-    Some(count)
+    Ok(count)
 }
 
-// Writes an answer at an octet.
-fn write_answer(answer: Answer, at: usize, answers: &mut [u8])
-    requires long { at + 16 ≤ length answers.old }
-    ensures after { answers.new ≡ take at answers.old ++ (answer_octets answer ++ drop (at + 16) answers.old) }
+// Writes an answer behind so many others. By its place: the library says nothing of a slice after `as_chunks_mut`.
+fn write_answer(answer: Answer, index: usize, answers: &mut [u8])
+    requires long { 16 * index + 16 ≤ length answers.old }
+    ensures after { answers.new ≡ take (16 * index) answers.old ++ (answer_octets answer ++ drop (16 * index + 16) answers.old) }
 {
+    let at = SIZE * index;
     answers[at..at + SIZE].copy_from_slice(&answer_octets(answer));
 }
 
@@ -44,22 +39,17 @@ pub(crate) fn performed<L: Line + Drop>(
     calls: &[u8],
     answers: &mut [u8],
     buffer: &mut [u8],
-) -> i64
-    ensures performs { Performs (wires L.most (L.meaning line)) calls.now answers.old buffer.old (came_to result answers.new buffer.new) }
+) -> Result<usize, Unperformed>
+    ensures performs { Performs (wires L.most (L.meaning line)) calls.now answers.old buffer.old (came_to (returned_number result) answers.new buffer.new) }
+    ensures few { IfOk result (λ count. count < 2 ^ 63) }
 {
-    let Some(count) = call_count(calls) else {
-        return NO_CALLS;
-    };
+    let count = call_count(calls)?;
     if answers.len() / SIZE < count {
-        return NO_ROOM;
+        return Err(Unperformed::Room);
     }
     let mut plan = Plan::new(line);
-    let mut rest = calls;
-    let mut at = 0;
-    while let Some((call, behind)) = read_call(rest) {
-        write_answer(plan.call(call, buffer), at, answers);
-        at += SIZE;
-        rest = behind;
+    for (index, call) in Calls(calls).enumerate() {
+        write_answer(plan.call(call?, buffer), index, answers);
     }
-    count as i64
+    Ok(count)
 }

@@ -8,61 +8,40 @@ use anyhow::anyhow;
 use line::Ethernet;
 use plan::{Call, perform};
 use script::{flow_sheet, port_sheet};
-use text::answer_line;
+use text::AnswerLine;
 
-// The calls in order, and the words that the record has for each.
+// Performs the calls in order and prints a line for each, with the words that the record has for the call.
 fn record<'a>(
     rt: &HostRuntime,
     line: Ethernet,
     ports: &'a [u8],
     flows: &'a [u8],
 ) -> anyhow::Result<()> {
-    let calls = [
-        Call::Flowspan,
-        Call::SetUp {
-            cycle: 1_000_000,
-            ports,
-        },
-        Call::SetUp {
-            cycle: 1_000_000,
-            ports,
-        },
-        Call::Offer { flows, index: 0 },
-        Call::Offer { flows, index: 1 },
-        Call::Offer { flows, index: 2 },
-        Call::Offer { flows, index: 3 },
-        Call::Offer { flows, index: 4 },
-        Call::StartOf { number: 9 },
-        Call::Flowspan,
-        Call::GateList { port: 1 },
-        Call::Withdraw { number: 9 },
-        Call::StartOf { number: 9 },
-        Call::Flowspan,
-        Call::GateList { port: 2 },
+    let cycle = 1_000_000;
+    let script = [
+        ("flowspan", Call::Flowspan),
+        ("set-up", Call::SetUp { cycle, ports }),
+        ("set-up", Call::SetUp { cycle, ports }),
+        ("offer 0", Call::Offer { flows, index: 0 }),
+        ("offer 1", Call::Offer { flows, index: 1 }),
+        ("offer 2", Call::Offer { flows, index: 2 }),
+        ("offer 3", Call::Offer { flows, index: 3 }),
+        ("offer 4", Call::Offer { flows, index: 4 }),
+        ("start of 9", Call::StartOf { number: 9 }),
+        ("flowspan", Call::Flowspan),
+        ("gate list of 1", Call::GateList { port: 1 }),
+        ("withdrawal of 9", Call::Withdraw { number: 9 }),
+        ("start of 9", Call::StartOf { number: 9 }),
+        ("flowspan", Call::Flowspan),
+        ("gate list of 2", Call::GateList { port: 2 }),
     ];
-    let names = [
-        "flowspan",
-        "set-up",
-        "set-up",
-        "offer 0",
-        "offer 1",
-        "offer 2",
-        "offer 3",
-        "offer 4",
-        "start of 9",
-        "flowspan",
-        "gate list of 1",
-        "withdrawal of 9",
-        "start of 9",
-        "flowspan",
-        "gate list of 2",
-    ];
+    let calls = script.map(|(_, call)| call);
     let mut buffer = [0; 15_365];
     let Ok(done) = perform(rt.alloc(), line, &calls, &mut buffer) else {
         return Err(anyhow!("no memory"));
     };
-    for (name, answer) in names.iter().zip(done.answers.iter()) {
-        rt.println(answer_line(rt.alloc(), name, answer)?)?;
+    for ((name, _), answer) in script.iter().zip(done.answers.iter().copied()) {
+        rt.println(AnswerLine { name, answer })?;
     }
     Ok(())
 }

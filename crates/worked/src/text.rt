@@ -1,34 +1,31 @@
 // The line that the record has for a call and its answer.
-ghost use Rattle.std.specs.Prelude.{◌≡◌, IfOk, string_bytes};
-ghost use Rattle.worked.specs.Texts.{answer_text, reply_text, fault_text};
+ghost use Rattle.std.specs.Prelude.{Some};
+ghost use Rattle.worked.specs.Texts.{answer_text};
 
-use fault::PlanFault;
 use plan::{Answer, Reply};
-use std::alloc::{AllocError, Global};
+use std::fmt;
 
-pub(crate) fn answer_line(heap: Global, name: &str, answer: &Answer) -> Result<String, AllocError>
-    ensures line { IfOk result (λ t. string_bytes t ≡ answer_text name.now answer.now) }
-{
-    match *answer {
-        Ok(reply) => reply_line(heap, name, reply),
-        Err(fault) => fault_line(heap, name, fault),
-    }
+// A call's name, and what it answered.
+#[derive(Clone, Copy)]
+pub(crate) struct AnswerLine<'a> {
+    pub(crate) name: &'a str,
+    pub(crate) answer: Answer,
 }
 
-fn reply_line(heap: Global, name: &str, reply: Reply) -> Result<String, AllocError>
-    ensures line { IfOk result (λ t. string_bytes t ≡ reply_text name.now reply) }
-{
-    match reply {
-        Reply::Done => format!(in heap; "{name}: done"),
-        Reply::Start(s) => format!(in heap; "{name}: start {s}"),
-        Reply::Span(s) => format!(in heap; "{name}: {s} ns"),
-        Reply::Records(n) => format!(in heap; "{name}: {n} records"),
-    }
-}
+impl<'a> fmt::Display for AnswerLine<'a> {
+    ghost output = { λ line. Some (answer_text line.name.now line.answer) };
 
-fn fault_line(heap: Global, name: &str, fault: PlanFault) -> Result<String, AllocError>
-    ensures line { IfOk result (λ t. string_bytes t ≡ fault_text name.now fault) }
-{
-    let number = fault.refusal().number;
-    format!(in heap; "{name}: refused {number}: {fault}")
+    fn fmt<W: fmt::Write>(&self, f: &mut fmt::Formatter<W>) -> fmt::Result {
+        let name = self.name;
+        match self.answer {
+            Ok(Reply::Done) => write!(f, "{name}: done"),
+            Ok(Reply::Start(start)) => write!(f, "{name}: start {start}"),
+            Ok(Reply::Span(span)) => write!(f, "{name}: {span} ns"),
+            Ok(Reply::Records(count)) => write!(f, "{name}: {count} records"),
+            Err(fault) => {
+                let number = fault.refusal().number;
+                write!(f, "{name}: refused {number}: {fault}")
+            }
+        }
+    }
 }
