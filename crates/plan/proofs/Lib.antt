@@ -7,7 +7,6 @@ pub mod Assured
 pub mod Held
 pub mod InOrder
 pub mod Judging
-pub mod Laws
 pub mod Listing
 pub mod Looking
 pub mod Moving

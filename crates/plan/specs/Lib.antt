@@ -2,6 +2,7 @@ pub mod Alike
 pub mod Calls
 pub mod Figures
 pub mod GateOctets
+pub mod Hops
 pub mod Looks
 pub mod Models
 pub mod Moves

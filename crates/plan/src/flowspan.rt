@@ -4,7 +4,7 @@ ghost use Rattle.line.specs.Meaning.{Meaning};
 ghost use Rattle.network.specs.Flows.{total as total_time};
 ghost use Rattle.planning.specs.Offers.{flowspan as greatest_end};
 ghost use Rattle.planning.specs.Setups.{network, blank};
-ghost use Rattle.plan.specs.Rows.{flow, flows, Kept, AllKept};
+ghost use Rattle.plan.specs.Rows.{flow, flows};
 ghost use Rattle.plan.specs.Setups.{setup as stored};
 
 use crate::row::{Row, State};
@@ -23,7 +23,6 @@ impl Setup {
 impl Row {
     // The total time of its flow: the last hop's offset + wire time + propagation delay.
     fn total(&self, setup: &Setup) -> u32
-        requires kept { Kept self.now }
         ensures value { (m : Meaning) → result ≡ total_time (network m (stored setup.now)) (flow self.now).hops }
         ensures most { result ≤ 1100100000 }
     {
@@ -37,7 +36,6 @@ impl Row {
 
 // The flowspan of the flows that rows hold.
 pub(crate) fn flowspan(rows: &[Row], setup: &Setup) -> u32
-    requires kept { AllKept rows.now }
     ensures value { (m : Meaning) → result ≡ greatest_end (network m (stored setup.now)) (flows rows.now) }
 {
     let mut span = 0;

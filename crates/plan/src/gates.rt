@@ -5,7 +5,7 @@ ghost use Rattle.sheet.specs.Gates.{octet_of, written_gate};
 ghost use Rattle.planning.specs.Gates.{state_by, Lasts, gates_by, gates_from};
 ghost use Rattle.plan.specs.GateOctets.{gate, gate_octets, count_answer};
 ghost use Rattle.plan.specs.Looks.{left_at, next_at, of_hops, left_on, next_on};
-ghost use Rattle.plan.specs.Rows.{flow, flows, hop, blank, Kept, AllKept};
+ghost use Rattle.plan.specs.Rows.{flow, flows, hop, blank};
 
 use crate::row::{Row, State};
 use fault::PlanFault;
@@ -48,7 +48,6 @@ impl Look {
 impl Row {
     // What is seen of hop k from a place of a port.
     fn see_hop(&self, k: usize, port: u8, place: u32) -> Look
-        requires kept { Kept self.now }
         requires within { k < self.now.count }
         ensures left { result.left ≡ (if nat_eq (get_or self.now.hops k blank).port port then left_at place (flow self.now) (hop (slice_index_or self.now.hops k blank)) else 0) }
         ensures next { result.next ≡ (if nat_eq (get_or self.now.hops k blank).port port then next_at place (flow self.now) (hop (slice_index_or self.now.hops k blank)) else 0xffff_ffff) }
@@ -68,7 +67,6 @@ impl Row {
 
     // What is seen of the row's hops.
     fn see(&self, port: u8, place: u32) -> Look
-        requires kept { Kept self.now }
         ensures left { result.left ≡ of_hops max 0 (left_at place (flow self.now)) port (flow self.now).hops }
         ensures next { result.next ≡ of_hops min 0xffff_ffff (next_at place (flow self.now)) port (flow self.now).hops }
     {
@@ -82,7 +80,6 @@ impl Row {
 
 // What is seen of the hops of every held flow.
 fn see(rows: &[Row], port: u8, place: u32) -> Look
-    requires kept { AllKept rows.now }
     ensures left { result.left ≡ left_on (flows rows.now) port place }
     ensures next { result.next ≡ next_on (flows rows.now) port place }
 {
@@ -108,7 +105,6 @@ fn cut_off(state: GateState, n: u32, rest: u32) -> GateRecord
 
 // The state at a place, and a number of places for which it lasts.
 fn state_at(rows: &[Row], port: u8, cycle: u32, guard: u32, place: u32) -> GateRecord
-    requires kept { AllKept rows.now }
     requires guard { guard ≤ 10000000 }
     requires place { place < cycle }
     ensures some { 0 < result.duration }
@@ -128,7 +124,6 @@ fn state_at(rows: &[Row], port: u8, cycle: u32, guard: u32, place: u32) -> GateR
 
 // The gate record from a place on: its state lasts until another follows or the cycle ends.
 fn stretch(rows: &[Row], port: u8, cycle: u32, guard: u32, place: u32) -> GateRecord
-    requires kept { AllKept rows.now }
     requires guard { guard ≤ 10000000 }
     requires place { place < cycle }
     ensures some { 0 < result.duration }
@@ -148,7 +143,6 @@ fn stretch(rows: &[Row], port: u8, cycle: u32, guard: u32, place: u32) -> GateRe
 
 // How many gate records a port has.
 fn count(rows: &[Row], port: u8, cycle: u32, guard: u32) -> usize
-    requires kept { AllKept rows.now }
     requires guard { guard ≤ 10000000 }
     ensures value { result ≡ length (gates_by guard cycle (flows rows.now) port) }
     ensures few { result ≤ cycle }
@@ -175,7 +169,6 @@ fn write_at(found: &GateRecord, at: usize, buffer: &mut [u8])
 
 // Writes the gate records of a port from the front of the buffer.
 fn write(rows: &[Row], port: u8, cycle: u32, guard: u32, buffer: &mut [u8])
-    requires kept { AllKept rows.now }
     requires cycle { cycle ≤ 1000000000 }
     requires guard { guard ≤ 10000000 }
     requires long { 5 * length (gates_by guard cycle (flows rows.now) port) ≤ length buffer.old }
@@ -199,7 +192,6 @@ pub(crate) fn gate_list(
     guard: u32,
     buffer: &mut [u8],
 ) -> Result<usize, PlanFault>
-    requires kept { AllKept rows.now }
     requires cycle { cycle ≤ 1000000000 }
     requires guard { guard ≤ 10000000 }
     ensures value { result ≡ count_answer (length (gates_by guard cycle (flows rows.now) port)) (length buffer.old) }

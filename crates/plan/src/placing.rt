@@ -3,7 +3,7 @@ ghost use Rattle.std.specs.Prelude.{◌≡◌, Some, Ok, Err};
 ghost use Rattle.planning.specs.Offers.{placed, unfit, flow as offered_flow};
 ghost use Rattle.plan.specs.Calls.{chosen, offered};
 ghost use Rattle.plan.specs.Offers.{Limited, Made};
-ghost use Rattle.plan.specs.Rows.{flow as row_flow, flows, Kept, AllKept};
+ghost use Rattle.plan.specs.Rows.{flow as row_flow, flows};
 ghost use Rattle.plan.specs.Timings.{network};
 
 use crate::fit::{earliest, fits};
@@ -36,8 +36,6 @@ pub(crate) fn made<L: Line>(line: &L, setup: &Setup, flow: &FlowRecord) -> Resul
 
 // The start of the flow of a row beside the held ones: the chosen one, or the earliest.
 pub(crate) fn start_beside(rows: &[Row], row: &Row, start: Start) -> Result<u32, PlanFault>
-    requires kept { AllKept rows.now }
-    requires row_kept { Kept row.now }
     ensures value { result ≡ placed (flows rows.now) (chosen start) (row_flow row.now) }
 {
     match start {
@@ -45,8 +43,7 @@ pub(crate) fn start_beside(rows: &[Row], row: &Row, start: Start) -> Result<u32,
             if s >= row.period {
                 return Err(PlanFault::Start);
             }
-            let moved = Row { start: s, ..*row };
-            if fits(rows, &moved) {
+            if fits(rows, row, s) {
                 Ok(s)
             } else {
                 Err(PlanFault::Taken)

@@ -1,13 +1,13 @@
 // The rows of a plan: which one holds a number, and which one is free.
 ghost use Rattle.std.specs.Prelude.{◌≡◌, ℕ, ◌<◌, true, false, [], length, MatchOption, slice_index_or};
 ghost use Rattle.planning.specs.Offers.{held};
-ghost use Rattle.plan.specs.Rows.{flows, none, free, Holds, IsFree};
+ghost use Rattle.plan.specs.Rows.{flows, none, Holds, IsFree};
 
 use crate::row::{Hop, Row, State};
 
 // A free row.
 pub(crate) fn no_row() -> Row
-    ensures value { result ≡ free }
+    ensures value { result ≡ none }
 {
     let hop = Hop {
         port: 0,
@@ -29,7 +29,7 @@ pub(crate) fn no_row() -> Row
 // 64 free rows.
 pub(crate) fn no_rows() -> [Row; 64]
     ensures long { length result ≡ 64 }
-    ensures each { (k : ℕ) → k < 64 → slice_index_or result k none ≡ free }
+    ensures each { (k : ℕ) → k < 64 → slice_index_or result k none ≡ none }
     ensures flows { flows result ≡ [] }
 {
     let row = no_row();

@@ -30,9 +30,9 @@ impl<L: Line> Plan<L> {
         let Some(k) = free_row(&self.rows) else {
             return Err(PlanFault::Full);
         };
-        let row = made(&self.line, setup, flow)?;
-        let start = start_beside(&self.rows, &row, flow.start)?;
-        Ok((k, Row { start, ..row }))
+        let mut row = made(&self.line, setup, flow)?;
+        row.start = start_beside(&self.rows, &row, flow.start)?;
+        Ok((k, row))
     }
 
     // Adds the flow of a record of a sheet, and answers its start: the chosen one, or the earliest.

@@ -1,9 +1,10 @@
 -- One row more: the greatest so far is that of the flow, where it is greater.
-use Rattle.std.proofs.Common.{◌+◌, max, get_or, drop, arith}
+use Rattle.std.proofs.Common.{◌+◌, ◌∷◌, max, drop, sym, ap, ◌∙◌, arith}
 use Rattle.std.proofs.lemmas.List.{at_drop_more, at_drop_all}
+use Rattle.plan.specs.declared.row.Row.{Row}
 use Rattle.planning.specs.Offers.{flowspan}
 use Rattle.planning.specs.Setups.{network}
-use Rattle.plan.specs.Rows.{flows, none}
+use Rattle.plan.specs.Rows.{flows}
 use Rattle.plan.specs.Setups.{setup}
 use Rattle.plan.proofs.Totals.{flowspan-free, flowspan-held}
 use Rattle.plan.proofs.flowspan.flowspan.Goals as goal
@@ -14,11 +15,12 @@ loop-row-preserved c = λ m.
     let net = network m (setup c.args.setup.now) in
     let rows = c.args.rows.now in
     let k = c.loop-row.row-index in
-    let row = get_or rows k none in
+    let row = c.row-item.result in
     let rest = drop (k + 1) rows in
     let span = c.loop-row.span in
     let inv = c.loop-row.invariant m in
-    let next = at_drop_more (λ rs. max span (flowspan net (flows rs))) rows k none c.loop-row-test.true in
+    let next = at_drop_more (λ rs. max span (flowspan net (flows rs))) rows k row c.loop-row-test.true ∙
+    ap (λ (r : Row). max span (flowspan net (flows (r ∷ rest)))) (sym c.row-item.is) in
     elim c.match-row.branch [
       | in-Held+then-span-end w ↦ let held = flowspan-held net row rest span w.in-Held.is in let time = w.total.ensures.value m in omega arith
       | in-Held+else-span-end w ↦ let held = flowspan-held net row rest span w.in-Held.is in let time = w.total.ensures.value m in omega arith

@@ -18,16 +18,17 @@ loop-row-preserved c =
     let y = c.args.place in
     let q = c.args.port in
     let k = c.loop-row.row-index in
+    let row = c.row-item.result in
     elim c.match-row.branch [
       | in-Held w ↦
-          let left = rows-held max 0 (left_at y) q rows k c.loop-row-test.true w.in-Held.is in
-          let next = rows-held min 0xffff_ffff (next_at y) q rows k c.loop-row-test.true w.in-Held.is in
+          let left = rows-held max 0 (left_at y) q rows k row c.loop-row-test.true c.row-item.is w.in-Held.is in
+          let next = rows-held min 0xffff_ffff (next_at y) q rows k row c.loop-row-test.true c.row-item.is w.in-Held.is in
           let left_is = ap (λ (l : Look). l.left) w.seen-is in
           let next-is = ap (λ (l : Look). l.next) w.seen-is in
           omega arith
       | in_default w ↦
-          let left = rows-free max 0 (left_at y) q rows k c.loop-row-test.true w.in_default.not-Held in
-          let next = rows-free min 0xffff_ffff (next_at y) q rows k c.loop-row-test.true w.in_default.not-Held in
+          let left = rows-free max 0 (left_at y) q rows k row c.loop-row-test.true c.row-item.is w.in_default.not-Held in
+          let next = rows-free min 0xffff_ffff (next_at y) q rows k row c.loop-row-test.true c.row-item.is w.in_default.not-Held in
           let left_is = ap (λ (l : Look). l.left) w.seen-is in
           let next-is = ap (λ (l : Look). l.next) w.seen-is in
           omega arith

@@ -3,18 +3,15 @@ use Rattle.std.proofs.Common.{ℕ, sym, refl, ap, ◌∙◌, arith}
 use Rattle.planning.specs.Setups as planning
 use Rattle.plan.specs.Models.{model, setup, wires}
 use Rattle.plan.specs.Setups as stored
-use Rattle.plan.proofs.Laws.{laws_of}
 use Rattle.plan.proofs.Listing.{list-answered, list_put}
 use Rattle.plan.proofs.plan.Plan.gate_list.Goals as goal
 
 pub gate_list-requires : goal.gate_list-requires
 gate_list-requires g c =
     let plan = c.args.self.now in
-    let long = plan.long in
-    let laws = laws_of plan.rows plan.long plan.starts plan.counts plan.hops plan.numbers plan.apart in
     let told = c.wire_time-guard.ensures.value in
     let short = g.met.L.Line.bounded plan.line c.args.port c.port-figures.result.best in
-    record { kept = λ k below. laws.kept k (omega arith); cycle = c.in-Some.setup.greatest; guard = omega arith }
+    record { cycle = c.in-Some.setup.greatest; guard = omega arith }
 
 pub returns : goal.returns
 returns g c =

@@ -39,7 +39,7 @@ returns-else-at-new c =
     let f = flow c.args.new.now in
     let s = c.args.s in
     let after = c.in-After.ensures.moves in
-    let few = c.requires.new_kept.period_most in
+    let few = c.args.new.now.period_most in
     record {
       skips = λ r more less. let m : r - s < c.in-After.n = omega arith in blocks_moved row f s r true c.in_default.not-Free more (after.1 (r - s) m);
     }

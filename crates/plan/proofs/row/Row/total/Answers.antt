@@ -10,11 +10,10 @@ use Rattle.plan.proofs.row.Row.total.Goals as goal
 pub returns : goal.returns
 returns c =
     let row = c.args.self.now in
-    let kept = c.requires.kept in
     let n : ℕ = row.count - 1 in
     let count : suc n ≡ row.count = omega (arith, c.if-self-eq0.false) in
-    let offset = kept.offsets n (omega arith) in
-    let wire = kept.wires n (omega arith) in
+    let offset = row.offsets n (omega arith) in
+    let wire = row.wires n (omega arith) in
     let delay = c.delay.ensures.value in
     record {
       value = λ m.
