@@ -1,7 +1,7 @@
 -- What is seen of the hops from an index on, and of the rows from an index on.
 -- Assumes nothing.
-use Rattle.std.proofs.Common.{◌≡◌, ℕ, ◌+◌, ◌<◌, ◌≤◌, min, cond, eqb, List, [], ◌∷◌, map, length, get_or, take, drop, sym, refl, ap, ◌∙◌, arith, length-take}
-use Rattle.std.proofs.lemmas.List.{at_drop_more, at_drop_all, get_or-take}
+use Rattle.std.proofs.Common.{◌≡◌, ℕ, ◌+◌, ◌<◌, ◌≤◌, min, cond, eqb, List, [], ◌∷◌, map, length, get_or, drop, sym, refl, ap, ◌∙◌, arith}
+use Rattle.std.proofs.lemmas.List.{at_drop_more, at_drop_all}
 use Rattle.network.specs.Flows as network
 use Rattle.network.specs.Flows.{Flow}
 use Rattle.plan.specs.declared.row.Hop.{Hop}
@@ -20,22 +20,16 @@ pub of-flows-≤ : (m : ℕ) (number : Flow → network.Hop → ℕ) (q : ℕ) (
 of-flows-≤ m number q [] = omega arith
 of-flows-≤ m number q (f ∷ fs) = let rest = of-flows-≤ m number q fs in omega arith
 
-module _ (both : ℕ → ℕ → ℕ) (m : ℕ) (number : network.Hop → ℕ) (q : ℕ) (hops : List Hop) (n : ℕ) where
-  -- of the first n hops, those from k on
+module _ (both : ℕ → ℕ → ℕ) (m : ℕ) (number : network.Hop → ℕ) (q : ℕ) (hops : List Hop) where
+  -- of the hops from k on
   abbrev pub hops-from : ℕ → ℕ
-  hops-from k = of_hops both m number q (map hop (drop k (take n hops)))
+  hops-from k = of_hops both m number q (map hop (drop k hops))
 
-  pub hops_more : (k : ℕ) → k < n → k < length hops →
-      hops-from k ≡ both (cond (eqb (get_or hops k blank).port q) (number (hop (get_or hops k blank))) m) (hops-from (k + 1))
-  hops_more k below within =
-      let inside : k < length (take n hops) = simp length-take (omega arith) in
-      at_drop_more (λ xs. of_hops both m number q (map hop xs)) (take n hops) k blank inside ∙
-      ap (λ (h : Hop). both (cond (eqb h.port q) (number (hop h)) m) (hops-from (k + 1))) (get_or-take n hops k blank below)
+  pub hops_more : (k : ℕ) → k < length hops → hops-from k ≡ both (cond (eqb (get_or hops k blank).port q) (number (hop (get_or hops k blank))) m) (hops-from (k + 1))
+  hops_more k within = at_drop_more (λ xs. of_hops both m number q (map hop xs)) hops k blank within
 
-  pub hops-all : (k : ℕ) → n ≤ k → hops-from k ≡ m
-  hops-all k all =
-      let past : length (take n hops) ≤ k = simp length-take (omega arith) in
-      at_drop_all (λ xs. of_hops both m number q (map hop xs)) (take n hops) k past
+  pub hops-all : (k : ℕ) → length hops ≤ k → hops-from k ≡ m
+  hops-all k past = at_drop_all (λ xs. of_hops both m number q (map hop xs)) hops k past
 
 module _ (both : ℕ → ℕ → ℕ) (m : ℕ) (number : Flow → network.Hop → ℕ) (q : ℕ) (rows : List Row) where
   -- of the rows from k on

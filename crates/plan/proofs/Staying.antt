@@ -32,8 +32,8 @@ rows_repeat rows q j k f h at hop-at port = each-flow (λ g. (i : ℕ) (x : netw
     each n below i x on =
         let row = get_or rows n none in
         let (within, is) = hop-stored row.hops row.count on in
-        let wires = row.wires i within in
-        subst (λ (y : network.Hop). Repeats (flow row) y) is (record { some = wires.0; within = wires.1 })
+        let times = row.within i within in
+        subst (λ (y : network.Hop). Repeats (flow row) y) is (record { some = times.wire_least; within = times.wire_most })
 
 -- a state that lasts n places lasts any fewer
 lasts_fewer : (states : ℕ → ℕ) (y s n m : ℕ) → m ≤ n → Lasts states y n s → Lasts states y m s

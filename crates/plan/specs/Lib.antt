@@ -1,6 +1,7 @@
 pub mod Alike
 pub mod Calls
 pub mod Figures
+pub mod GateLists
 pub mod GateOctets
 pub mod Hops
 pub mod Looks

@@ -41,8 +41,7 @@ none = record {
   below = leb-true 1 1 refl;
   few = leb-true 0 8 refl;
   long = refl;
-  offsets = λ k below. absurd (not-suc-le-zero below);
-  wires = λ k below. absurd (not-suc-le-zero below);
+  within = λ k below. absurd (not-suc-le-zero below);
 }
 
 -- the row is free

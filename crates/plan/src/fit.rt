@@ -3,34 +3,31 @@ ghost use Rattle.std.specs.Prelude.{◌≡◌, ℕ, ◌+◌, ◌<◌, ◌≤◌,
 ghost use Rattle.planning.specs.Lists.{any};
 ghost use Rattle.planning.specs.Overlaps.{meets, overlaps, fits as fitting, earliest as first_fitting};
 ghost use Rattle.network.specs.Overlap.{starting};
-ghost use Rattle.plan.specs.Rows.{flow, flows, hop, blank};
+ghost use Rattle.plan.specs.Hops.{Within};
+ghost use Rattle.plan.specs.Rows.{flow, flows, hop};
 ghost use Rattle.plan.specs.Moves.{Moves, Skips, blocks, clash, taken};
 
-use crate::row::{Row, State};
+use crate::row::{Hop, Row, State};
 use spans::{Clearance, Spans};
 
 impl Row {
-    // How far spans on a port have to move to clear hop k of this row.
-    fn clears_hop(&self, k: usize, port: u8, moving: &Spans) -> Clearance
-        requires within { k < self.now.count }
-        ensures moves { Moves (clash moving.now port (flow self.now) (hop (slice_index_or self.now.hops k blank))) result }
+    // How far spans on a port have to move to clear a hop of this row.
+    fn clears_hop(&self, at: &Hop, port: u8, moving: &Spans) -> Clearance
+        requires within { Within self.now.period at.now }
+        ensures moves { Moves (clash moving.now port (flow self.now) (hop at.now)) result }
     {
-        let at = self.hops[k];
         if at.port != port {
             return Clearance::Clear;
         }
-        let Some(held) = Spans::new(self.start + at.offset, self.period, at.wire) else {
-            return Clearance::Clear;
-        };
-        moving.clearance(&held)
+        moving.clearance(&self.spans(at, self.start))
     }
 
     // How far spans on a port have to move to clear every hop of this row there.
     fn clears_port(&self, port: u8, moving: &Spans) -> Clearance
         ensures moves { Moves (λ m. any (λ i. clash moving.now port (flow self.now) i m) (flow self.now).hops) result }
     {
-        for k in 0..self.count as usize {
-            match self.clears_hop(k, port, moving) {
+        for at in self.route() {
+            match self.clears_hop(at, port, moving) {
                 Clearance::Clear => {}
                 met => return met,
             }
@@ -38,26 +35,13 @@ impl Row {
         Clearance::Clear
     }
 
-    // How far hop j of another row has to move from start s to clear this row.
-    fn clears_from(&self, other: &Row, j: usize, s: u32) -> Clearance
-        requires within { j < other.now.count }
-        requires below { s < other.now.period }
-        ensures moves { Moves (λ m. any (λ i. meets (starting (s + m) (flow other.now)) (hop (slice_index_or other.now.hops j blank)) (flow self.now) i) (flow self.now).hops) result }
-    {
-        let at = other.hops[j];
-        let Some(moving) = Spans::new(s + at.offset, other.period, at.wire) else {
-            return Clearance::Clear;
-        };
-        self.clears_port(at.port, &moving)
-    }
-
     // How far the flow of another row has to move from start s to clear this row.
     pub(crate) fn clears(&self, other: &Row, s: u32) -> Clearance
         requires below { s < other.now.period }
         ensures moves { Moves (λ m. overlaps (starting (s + m) (flow other.now)) (flow self.now)) result }
     {
-        for j in 0..other.count as usize {
-            match self.clears_from(other, j, s) {
+        for at in other.route() {
+            match self.clears_port(at.port, &other.spans(at, s)) {
                 Clearance::Clear => {}
                 met => return met,
             }
@@ -72,7 +56,7 @@ impl Row {
         requires below { s < new.now.period }
         ensures skips { Skips (blocks self.now (flow new.now)) new.now.period s result }
     {
-        if let State::Free = self.state {
+        if self.state == State::Free {
             return Some(s);
         }
         match self.clears(new, s) {

@@ -26,11 +26,10 @@ impl Row {
         ensures value { (m : Meaning) → result ≡ total_time (network m (stored setup.now)) (flow self.now).hops }
         ensures most { result ≤ 1100100000 }
     {
-        if self.count == 0 {
-            return 0;
+        match self.route().last() {
+            Some(last) => last.offset + last.wire + setup.delay(last.port),
+            None => 0,
         }
-        let last = self.hops[self.count as usize - 1];
-        last.offset + last.wire + setup.delay(last.port)
     }
 }
 
@@ -40,11 +39,8 @@ pub(crate) fn flowspan(rows: &[Row], setup: &Setup) -> u32
 {
     let mut span = 0;
     for row in rows {
-        if let State::Held = row.state {
-            let end = row.start + row.total(setup);
-            if span < end {
-                span = end;
-            }
+        if row.state == State::Held {
+            span = span.max(row.start + row.total(setup));
         }
     }
     span

@@ -39,19 +39,9 @@ pub(crate) fn start_beside(rows: &[Row], row: &Row, start: Start) -> Result<u32,
     ensures value { result ≡ placed (flows rows.now) (chosen start) (row_flow row.now) }
 {
     match start {
-        Start::Chosen(s) => {
-            if s >= row.period {
-                return Err(PlanFault::Start);
-            }
-            if fits(rows, row, s) {
-                Ok(s)
-            } else {
-                Err(PlanFault::Taken)
-            }
-        }
-        Start::Free => match earliest(rows, row) {
-            Some(s) => Ok(s),
-            None => Err(PlanFault::NoStart),
-        },
+        Start::Chosen(s) if s >= row.period => Err(PlanFault::Start),
+        Start::Chosen(s) if fits(rows, row, s) => Ok(s),
+        Start::Chosen(_) => Err(PlanFault::Taken),
+        Start::Free => earliest(rows, row).ok_or(PlanFault::NoStart),
     }
 }

@@ -6,7 +6,7 @@ use Rattle.planning.specs.Overlaps.{meets}
 use Rattle.plan.specs.Rows.{flow, hop, blank}
 use Rattle.plan.proofs.row.Row.clears.Given as goal
 
-abbrev pub invariant-loop-j : goal.invariant-loop-j
-invariant-loop-j l =
-    (k : ℕ) → k < l.j →
-    any (λ i. meets (starting (l.s + 0) (flow l.other)) (hop (get_or l.other.hops k blank)) (flow l.self) i) (flow l.self).hops ≡ false
+abbrev pub invariant-loop-at : goal.invariant-loop-at
+invariant-loop-at l =
+    (k : ℕ) → k < l.at-index →
+    any (λ i. meets (starting (l.s + 0) (flow l.other)) (hop (get_or l.at-items k blank)) (flow l.self) i) (flow l.self).hops ≡ false
