@@ -1,7 +1,7 @@
 -- The flows that rows hold, by row: which numbers are held, how many rows are free, and one row that changes.
 -- Assumes nothing.
 use Rattle.std.proofs.Common.{◌≡◌, ℕ, zero, suc, ◌<◌, ◌≤◌, Bool, true, false, ◌||◌, eqb, leb, List, [], ◌∷◌, length, get_or, set, Some, None, Option, sym, refl, ap, ◌∙◌, subst, arith, eq-eqb}
-use Rattle.std.specs.Prelude.{MatchOption}
+use Rattle.std.specs.Prelude.{MatchOption, is_some}
 use Rattle.std.specs.List.{AllWithin, HoldsAt}
 use Rattle.std.proofs.lemmas.Bool.{eqb-true, lt-leb}
 use Rattle.network.specs.Flows.{At, here, next, Flow}
@@ -116,6 +116,13 @@ held-some n (r ∷ rows) (suc k) below holds = go r.state (held-some n rows k (o
     go : (state : State) → held n (flows rows) ≡ true → held n (more state r (flows rows)) ≡ true
     go Free e = e
     go Held e = ap (λ (b : Bool). eqb r.number n || b) e ∙ or_true (eqb r.number n)
+
+-- whether a search for it found a row tells whether it is held
+pub held-found : (n : ℕ) (rows : List Row) (r : Option ℕ) →
+    MatchOption r (held n (flows rows) ≡ false) (λ k. (k < length rows) × Holds n (get_or rows k none) × ((j : ℕ) → j < k → Holds n (get_or rows j none) → ⊥)) →
+    held n (flows rows) ≡ is_some r
+held-found n rows None cases = cases
+held-found n rows (Some k) cases = held-some n rows k cases.0 cases.1
 
 -- the flow of a row that holds one is one of the flows
 pub flows-at : (rows : List Row) (k : ℕ) → k < length rows → (get_or rows k none).state ≡ Held → (j : ℕ) × At (flows rows) j (flow (get_or rows k none))

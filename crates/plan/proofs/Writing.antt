@@ -1,6 +1,6 @@
 -- Gate records written one after another into a buffer.
 -- Assumes nothing.
-use Rattle.std.proofs.Common.{◌≡◌, ℕ, ◌+◌, ◌-◌, ◌≤◌, leb, List, [], ◌∷◌, ◌++◌, length, take, drop, Ok, Result, sym, refl, ap, ◌∙◌, ap₂, arith, length-append, length-drop, take-append-drop, length-take}
+use Rattle.std.proofs.Common.{◌≡◌, ℕ, ◌+◌, ◌-◌, ◌≤◌, leb, List, [], ◌∷◌, ◌++◌, length, take, drop, Ok, Result, sym, refl, ap, ◌∙◌, ap₂, arith, length-append, length-drop, length-take}
 use borrow.Rule.Slice.PartMut.{put_mid}
 use Rattle.std.proofs.lemmas.List.{append-nil, append_assoc, take_at, take_rest, drop_at, drop-drop, drop_all}
 use Rattle.std.proofs.lemmas.Bool.{le-leb, cond-true}
@@ -72,7 +72,3 @@ gates_more k l n x es all buffer after behind below within first is =
     ap (λ (m : ℕ). filled m n (gate_octets es) after) behind ∙ ap (filled (k + 5) n (gate_octets es)) is ∙ filled_more k n (written_gate x) (gate_octets es) buffer refl (omega arith) within ∙
     ap (λ (y : GateRecord). filled k n (written_gate y ++ gate_octets es) buffer) (sym (gate_record-gate x)) ∙
     ap (λ (xs : List Gate). filled k n (gate_octets xs) buffer) (sym first)
-
--- with none to come the buffer is filled
-pub gates-all : (k n : ℕ) (buffer : List ℕ) → k ≡ n → filled k n [] buffer ≡ buffer
-gates-all k n buffer all = ap (λ (m : ℕ). take k buffer ++ drop m buffer) (sym all) ∙ take-append-drop k buffer

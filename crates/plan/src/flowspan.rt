@@ -37,11 +37,9 @@ impl Row {
 pub(crate) fn flowspan(rows: &[Row], setup: &Setup) -> u32
     ensures value { (m : Meaning) → result ≡ greatest_end (network m (stored setup.now)) (flows rows.now) }
 {
-    let mut span = 0;
-    for row in rows {
-        if row.state == State::Held {
-            span = span.max(row.start + row.total(setup));
-        }
-    }
-    span
+    rows.iter()
+        .filter(|row| row.state == State::Held)
+        .map(|row| row.start + row.total(setup))
+        .max()
+        .unwrap_or(0)
 }

@@ -24,7 +24,7 @@ impl<L: Line> Plan<L> {
         requires limited { Limited flow.now }
         ensures placed { elim result [ Ok p ↦ Placed L.most (network (L.meaning self.now.line) setup.now) self.now.rows (offered flow.now) p.0 p.1 | Err e ↦ answer (network (L.meaning self.now.line) setup.now) L.most (held self.now.rows) (offered flow.now) ≡ Err e ] }
     {
-        if let Some(_) = find(&self.rows, flow.number) {
+        if find(&self.rows, flow.number).is_some() {
             return Err(PlanFault::NumberHeld);
         }
         let Some(k) = free_row(&self.rows) else {

@@ -7,17 +7,17 @@ use Rattle.planning.specs.Offers.{placed}
 use Rattle.plan.specs.Calls.{chosen, offered}
 use Rattle.plan.specs.Rows.{flow, flows}
 use Rattle.plan.specs.Timings.{network}
-use Rattle.plan.proofs.Held.{held-some, room-left}
+use Rattle.plan.proofs.Held.{held-found, room-left}
 use Rattle.plan.proofs.Offering.{answer-held, answer-unfit, answer-placed, placed-fits}
 use Rattle.plan.proofs.plan.Plan.place.Goals as goal
 
-pub returns-in-Some : goal.returns-in-Some
-returns-in-Some g c =
+pub returns-then-is_some : goal.returns-then-is_some
+returns-then-is_some g c =
     let plan = c.args.self.now in
     let x = offered c.args.flow.now in
     let net = network (g.L.Line.meaning plan.line) c.args.setup.now in
-    let found = c.in-Some.ensures.cases in
-    record { placed = answer-held net g.L.Line.most (flows plan.rows) x (held-some x.number plan.rows _ found.0 found.1) }
+    let named = held-found x.number plan.rows _ c.find.ensures.cases in
+    record { placed = answer-held net g.L.Line.most (flows plan.rows) x (named ∙ (cc)) }
 
 pub returns-in_err-row : goal.returns-in_err-row
 returns-in_err-row g c =
@@ -25,9 +25,9 @@ returns-in_err-row g c =
     let x = offered c.args.flow.now in
     let net = network (g.L.Line.meaning plan.line) c.args.setup.now in
     let p = err_from_is_err_and c.from_residual.result c.from_residual.ensures.1 in
-    let free = c.in-Some-free_row.ensures.cases in
+    let free = c.in-Some.ensures.cases in
     rw (p.1, p.2) (record {
-      placed = answer-unfit net g.L.Line.most (flows plan.rows) x c.in_default.ensures.cases (room-left plan.rows _ plan.long free.0 free.1) c.in_err-row.ensures.made;
+      placed = answer-unfit net g.L.Line.most (flows plan.rows) x (held-found x.number plan.rows _ c.find.ensures.cases ∙ (cc)) (room-left plan.rows _ plan.long free.0 free.1) c.in_err-row.ensures.made;
     })
 
 pub returns-in_err-row-2 : goal.returns-in_err-row-2
@@ -36,9 +36,9 @@ returns-in_err-row-2 g c =
     let x = offered c.args.flow.now in
     let net = network (g.L.Line.meaning plan.line) c.args.setup.now in
     let p = err_from_is_err_and c.from_residual-in_err-row-2.result c.from_residual-in_err-row-2.ensures.1 in
-    let free = c.in-Some-free_row.ensures.cases in
+    let free = c.in-Some.ensures.cases in
     let made = c.in_ok-row.ensures.made in
-    let done = answer-placed net g.L.Line.most (flows plan.rows) x c.in_default.ensures.cases (room-left plan.rows _ plan.long free.0 free.1) made.passes in
+    let done = answer-placed net g.L.Line.most (flows plan.rows) x (held-found x.number plan.rows _ c.find.ensures.cases ∙ (cc)) (room-left plan.rows _ plan.long free.0 free.1) made.passes in
     let at = ap (λ (f : Flow). placed (flows plan.rows) x.chosen f) made.flow in
     rw (p.1, p.2) (record { placed = done ∙ sym at ∙ sym c.in_err-row-2.ensures.value })
 
@@ -54,9 +54,9 @@ returns g c =
     let net = network (g.L.Line.meaning plan.line) c.args.setup.now in
     let row = c.in_ok-row.row in
     let s = c.in_ok-row-2.field-0 in
-    let free = c.in-Some-free_row.ensures.cases in
+    let free = c.in-Some.ensures.cases in
     let made = c.in_ok-row.ensures.made in
-    let fresh = c.in_default.ensures.cases in
+    let fresh = (held-found x.number plan.rows _ c.find.ensures.cases ∙ (cc)) in
     let value = c.in_ok-row-2.ensures.value in
     let done = answer-placed net g.L.Line.most (flows plan.rows) x fresh (room-left plan.rows _ plan.long free.0 free.1) made.passes in
     let at = ap (λ (f : Flow). placed (flows plan.rows) x.chosen f) made.flow in
