@@ -22,28 +22,18 @@ impl Row {
         moving.clearance(&self.spans(at, self.start))
     }
 
-    // How far spans on a port have to move to clear every hop of this row there.
-    fn clears_port(&self, port: u8, moving: &Spans) -> Clearance
-        ensures moves { Moves (λ m. any (λ i. clash moving.now port (flow self.now) i m) (flow self.now).hops) result }
-    {
-        for at in self.route() {
-            match self.clears_hop(at, port, moving) {
-                Clearance::Clear => {}
-                met => return met,
-            }
-        }
-        Clearance::Clear
-    }
-
     // How far the flow of another row has to move from start s to clear this row.
     pub(crate) fn clears(&self, other: &Row, s: u32) -> Clearance
         requires below { s < other.now.period }
         ensures moves { Moves (λ m. overlaps (starting (s + m) (flow other.now)) (flow self.now)) result }
     {
         for at in other.route() {
-            match self.clears_port(at.port, &other.spans(at, s)) {
-                Clearance::Clear => {}
-                met => return met,
+            let moving = other.spans(at, s);
+            for held in self.route() {
+                match self.clears_hop(held, at.port, &moving) {
+                    Clearance::Clear => {}
+                    met => return met,
+                }
             }
         }
         Clearance::Clear

@@ -13,7 +13,7 @@ use sheet::{GateRecord, GateState, RecordKind};
 struct Look {
     // for how many places a span that covers it goes on, 0 if none covers it
     left: u32,
-    // how far off the next first instant is, and where there is none u32::MAX, which the least of it and any other passes over
+    // how far off the next first instant is; where there is none, u32::MAX, with which `min` gives the other number
     next: u32,
 }
 
