@@ -1,6 +1,8 @@
 -- The flows that rows hold, by row: which numbers are held, how many rows are free, and one row that changes.
 -- Assumes nothing.
 use Rattle.std.proofs.Common.{◌≡◌, ℕ, zero, suc, ◌<◌, ◌≤◌, Bool, true, false, ◌||◌, eqb, leb, List, [], ◌∷◌, length, get_or, set, Some, None, Option, sym, refl, ap, ◌∙◌, subst, arith, eq-eqb}
+use Rattle.std.specs.Prelude.{MatchOption, is_some}
+use Rattle.std.specs.List.{AllWithin, HoldsAt}
 use Rattle.std.proofs.lemmas.Bool.{eqb-true, lt-leb}
 use Rattle.network.specs.Flows.{At, here, next, Flow}
 use Rattle.network.proofs.Lists.{At-empty}
@@ -27,7 +29,7 @@ held-state r busy = go r.state busy
     go Held busy = refl
 
 -- no row holds number n
-pub held_none : (n : ℕ) (rows : List Row) → ((k : ℕ) → k < length rows → Holds n (get_or rows k none) → ⊥) → held n (flows rows) ≡ false
+held_none : (n : ℕ) (rows : List Row) → ((k : ℕ) → k < length rows → Holds n (get_or rows k none) → ⊥) → held n (flows rows) ≡ false
 held_none n [] free = refl
 held_none n (r ∷ rows) free = go r.state refl (held_none n rows (λ k below. free (suc k) (omega arith)))
   where
@@ -38,6 +40,13 @@ held_none n (r ∷ rows) free = go r.state refl (held_none n rows (λ k below. f
     go : (state : State) → r.state ≡ state → held n (flows rows) ≡ false → held n (more state r (flows rows)) ≡ false
     go Free is rest = rest
     go Held is rest = ap (λ (b : Bool). b || held n (flows rows)) (other (eqb r.number n) refl is) ∙ rest
+
+-- what a search for the first row that holds number n tells
+pub first_held : (n : ℕ) (rows : List Row) (r : Option ℕ) →
+    MatchOption r (AllWithin (λ row. Holds n row → ⊥) rows 0 (length rows)) (λ k. (k < length rows) × HoldsAt (Holds n) rows k × AllWithin (λ row. Holds n row → ⊥) rows 0 k) →
+    MatchOption r (held n (flows rows) ≡ false) (λ k. (k < length rows) × Holds n (get_or rows k none) × ((j : ℕ) → j < k → Holds n (get_or rows j none) → ⊥))
+first_held n rows None others = held_none n rows (λ k below. others k none (omega arith) below)
+first_held n rows (Some k) first = (first.0, first.1 none, λ j less. first.2 j none (omega arith) less)
 
 -- the first row that holds number n has its start
 pub start-found : (n : ℕ) (rows : List Row) (k : ℕ) → k < length rows → Holds n (get_or rows k none) → ((j : ℕ) → j < k → Holds n (get_or rows j none) → ⊥) → start_of n (flows rows) ≡ Some (get_or rows k none).start
@@ -108,6 +117,13 @@ held-some n (r ∷ rows) (suc k) below holds = go r.state (held-some n rows k (o
     go Free e = e
     go Held e = ap (λ (b : Bool). eqb r.number n || b) e ∙ or_true (eqb r.number n)
 
+-- whether a search for it found a row tells whether it is held
+pub held-found : (n : ℕ) (rows : List Row) (r : Option ℕ) →
+    MatchOption r (held n (flows rows) ≡ false) (λ k. (k < length rows) × Holds n (get_or rows k none) × ((j : ℕ) → j < k → Holds n (get_or rows j none) → ⊥)) →
+    held n (flows rows) ≡ is_some r
+held-found n rows None cases = cases
+held-found n rows (Some k) cases = held-some n rows k cases.0 cases.1
+
 -- the flow of a row that holds one is one of the flows
 pub flows-at : (rows : List Row) (k : ℕ) → k < length rows → (get_or rows k none).state ≡ Held → (j : ℕ) × At (flows rows) j (flow (get_or rows k none))
 flows-at [] k below busy = absurd (omega arith)
@@ -129,11 +145,18 @@ each-flow P (r ∷ rows) each j f at = go (each-flow P rows (λ k below. each (s
     go rest Held (suc j) f (next at) = rest j f at
 
 -- every row holds a flow
-pub flows_full : (rows : List Row) → ((k : ℕ) → k < length rows → IsFree (get_or rows k none) → ⊥) → length (flows rows) ≡ length rows
+flows_full : (rows : List Row) → ((k : ℕ) → k < length rows → IsFree (get_or rows k none) → ⊥) → length (flows rows) ≡ length rows
 flows_full [] busy = refl
 flows_full (r ∷ rows) busy =
     subst (λ (state : State). length (more state r (flows rows)) ≡ suc (length rows)) (sym (held-state r (busy 0 (omega arith))))
     (ap suc (flows_full rows (λ k below. busy (suc k) (omega arith))))
+
+-- what a search for the first free row tells
+pub first_free : (rows : List Row) (r : Option ℕ) →
+    MatchOption r (AllWithin (λ row. IsFree row → ⊥) rows 0 (length rows)) (λ k. (k < length rows) × HoldsAt IsFree rows k × AllWithin (λ row. IsFree row → ⊥) rows 0 k) →
+    MatchOption r (length (flows rows) ≡ length rows) (λ k. (k < length rows) × IsFree (get_or rows k none))
+first_free rows None others = flows_full rows (λ k below. others k none (omega arith) below)
+first_free rows (Some k) first = (first.0, first.1 none)
 
 pub flows-few : (rows : List Row) → length (flows rows) ≤ length rows
 flows-few [] = omega arith

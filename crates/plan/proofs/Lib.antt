@@ -7,7 +7,7 @@ pub mod Assured
 pub mod Held
 pub mod InOrder
 pub mod Judging
-pub mod Laws
+pub mod Left
 pub mod Listing
 pub mod Looking
 pub mod Moving

@@ -1,6 +1,6 @@
 -- From what a clearance says of spans to what it says of tests.
 -- Assumes nothing.
-use Rattle.std.proofs.Common.{◌≡◌, ℕ, ◌+◌, Bool, true, false, ◌&&◌, List, [], ◌∷◌, sym, refl, ap, ◌∙◌, subst, add-zero, arith, eq-eqb}
+use Rattle.std.proofs.Common.{◌≡◌, ℕ, ◌+◌, Bool, true, false, ◌&&◌, sym, refl, ap, ◌∙◌, subst, add-zero, arith, eq-eqb}
 use Rattle.spans.specs.Formula.{shares}
 use Rattle.spans.specs.Overlap.{Clears}
 use Rattle.spans.specs.Spans.{Share}
@@ -10,7 +10,6 @@ use Rattle.spans.specs.declared.span.overlap.Clearance.TheVariants.{Clear, After
 use Rattle.spans.proofs.Formula.{decides-shares}
 use Rattle.network.specs.Flows.{Flow, Hop}
 use Rattle.network.specs.Overlap.{first, starting}
-use Rattle.planning.specs.Lists.{any}
 use Rattle.planning.specs.Overlaps.{meets}
 use Rattle.plan.specs.Moves.{Moves, clash}
 
@@ -62,8 +61,3 @@ pub clash-meets : (one : Spans) (s : ℕ) (f : Flow) (h : Hop) (g : Flow) (i : H
 clash-meets one s f h g i from period wire m =
     let at : one.first + m ≡ s + m + h.offset = omega arith in
     cc
-
--- a test over a list by an equal test
-pub any_same : {A : Type 0} (p P : A → Bool) (xs : List A) → ((x : A) → p x ≡ P x) → any p xs ≡ any P xs
-any_same p P [] same = refl
-any_same p P (x ∷ xs) same = let head = same x in let rest = any_same p P xs same in cc

@@ -4,7 +4,7 @@ use Rattle.std.proofs.Common.{◌≡◌, ℕ, suc, ◌+◌, ◌<◌, ◌≤◌, 
 use mathlib.Core.List.{reverse_aux}
 use lib.ListN.{length-map}
 use Rattle.std.specs.List.{IsAnyAnswer}
-use Rattle.std.proofs.lemmas.List.{map-id, reverse-append, take_all, take_more, at_drop_more, get_or-map, get_or-take}
+use Rattle.std.proofs.lemmas.List.{map-id, reverse-append, take_more, at_drop_more, get_or-map, get_or-take}
 use Rattle.std.proofs.lemmas.Bool.{le-leb, lt-leb, lt-ltb, le-ltb, or_from, or_left, or_right}
 use Rattle.network.specs.Flows as network
 use Rattle.network.proofs.Lists.{At-get_or}
@@ -52,14 +52,11 @@ any-reverse {A} p xs = onto xs [] ∙ or_false (any p xs)
 
 -- whether a port stands among others
 any_stands : (ports : List ℕ) (q : ℕ) (stands : Bool) → IsAnyAnswer (λ r b. eqb r q ≡ b) ports stands → any (λ r. eqb r q) ports ≡ stands
-any_stands ports q stands cases = sym (ap (any (λ r. eqb r q)) whole) ∙ go stands cases
+any_stands ports q stands cases = sym (ap (any (λ r. eqb r q)) (map-id ports)) ∙ go stands cases
   where
-    whole : map (λ (r : ℕ). r) (take (length ports) ports) ≡ ports
-    whole = map-id (take (length ports) ports) ∙ take_all (length ports) ports (omega arith)
-
-    go : (stands : Bool) → IsAnyAnswer (λ r b. eqb r q ≡ b) ports stands → any (λ r. eqb r q) (map (λ (r : ℕ). r) (take (length ports) ports)) ≡ stands
-    go true some = any_true (λ r. eqb r q) (λ r. r) 0 ports (length ports) some.0 some.1 some.1 (some.2 0)
-    go false none = any_false (λ r. eqb r q) (λ r. r) 0 ports (length ports) (λ j _ within. none j 0 (omega arith) within)
+    go : (stands : Bool) → IsAnyAnswer (λ r b. eqb r q ≡ b) ports stands → any (λ r. eqb r q) (map (λ (r : ℕ). r) ports) ≡ stands
+    go true some = any_true (λ r. eqb r q) (λ r. r) 0 ports some.0 some.1 (some.2 0)
+    go false none = any_false (λ r. eqb r q) (λ r. r) 0 ports (λ j within. none j 0 (omega arith) within)
 
 -- what the search for a misrouted hop does at hop k
 misrouted-at : (N : ℕ) (route : List ℕ) (k : ℕ) (bad : Bool) → k < length route → (leb N (get_or route k 0) || any (λ r. eqb r (get_or route k 0)) (take k route)) ≡ bad →

@@ -1,7 +1,7 @@
 -- Pairs of related flows in rows, after one row has changed.
 -- Assumes nothing.
 use Rattle.std.proofs.Common.{◌≡◌, ℕ, ◌<◌, List, length, get_or, set, sym, ◌∙◌, subst, arith, get_or-set_other, get_or-set_same}
-use native.Mathlib.Decide.{ℕ_discrete, dec_lt}
+use native.Mathlib.Decide.{dec_lt}
 use Rattle.network.specs.Flows.{Flow}
 use Rattle.plan.specs.declared.row.Row.{Row}
 use Rattle.plan.specs.declared.row.State.{State}
@@ -21,13 +21,6 @@ module _ (rows : List Row) (k : ℕ) (new : Row) (long : length rows ≡ 64) (be
 
   at_row : (P : Row → Type 0) (j : ℕ) → j ≡ k → P (get_or (set rows k new) j none) → P new
   at_row P j same p = subst P at-k (subst (λ (x : ℕ). P (get_or (set rows k new) x none)) same p)
-
-  -- what each row keeps, if the new one does
-  pub each_set : (P : Row → Type 0) → ((j : ℕ) → j < 64 → P (get_or rows j none)) → P new → (j : ℕ) → j < 64 → P (get_or (set rows k new) j none)
-  each_set P each here j within = elim (ℕ_discrete j k) [
-    | yes same ↦ subst (λ (x : ℕ). P (get_or (set rows k new) x none)) (sym same) (subst P (sym at-k) here)
-    | no differ ↦ subst P (sym (off-k j differ)) (each j within)
-  ]
 
 module _ (R : Flow → Flow → Type 0) (rows : List Row) (k : ℕ) (new : Row) (long : length rows ≡ 64) (below : k < 64) where
   -- a pair of rows that did not change

@@ -1,6 +1,6 @@
 -- Gate records written one after another into a buffer.
 -- Assumes nothing.
-use Rattle.std.proofs.Common.{◌≡◌, ℕ, ◌+◌, ◌-◌, ◌≤◌, leb, List, [], ◌∷◌, ◌++◌, length, take, drop, Ok, Result, sym, refl, ap, ◌∙◌, ap₂, arith, length-append, length-drop, take-append-drop, length-take}
+use Rattle.std.proofs.Common.{◌≡◌, ℕ, ◌+◌, ◌-◌, ◌≤◌, leb, List, [], ◌∷◌, ◌++◌, length, take, drop, Ok, Result, sym, refl, ap, ◌∙◌, ap₂, arith, length-append, length-drop, length-take}
 use borrow.Rule.Slice.PartMut.{put_mid}
 use Rattle.std.proofs.lemmas.List.{append-nil, append_assoc, take_at, take_rest, drop_at, drop-drop, drop_all}
 use Rattle.std.proofs.lemmas.Bool.{le-leb, cond-true}
@@ -33,14 +33,18 @@ part-written s buffer part k j r room judged answer after =
     let none : drop (length buffer - k) (drop k buffer) ≡ [] = drop_all (length buffer - k) (drop k buffer) (simp length-drop (omega arith)) in
     ap (λ (xs : List ℕ). take k buffer ++ (part ++ xs)) none ∙ ap (λ (xs : List ℕ). take k buffer ++ xs) (append-nil part ∙ is)
 
+-- a state is that of its octet
+state_of-octet_of : (s : GateState) → state_of (octet_of s) ≡ s
+state_of-octet_of Scheduled = refl
+state_of-octet_of BestEffort = refl
+state_of-octet_of Closed = refl
+
+pub octet-state : {s t : GateState} → octet_of s ≡ octet_of t → s ≡ t
+octet-state {s} {t} same = sym (state_of-octet_of s) ∙ ap state_of same ∙ state_of-octet_of t
+
 -- a gate record is that of its state and its duration
 gate_record-gate : (x : GateRecord) → gate_record (gate x) ≡ x
-gate_record-gate x = λ i. record { state = go x.state i; duration = x.duration }
-  where
-    go : (s : GateState) → state_of (octet_of s) ≡ s
-    go Scheduled = refl
-    go BestEffort = refl
-    go Closed = refl
+gate_record-gate x = λ i. record { state = state_of-octet_of x.state i; duration = x.duration }
 
 -- the first k octets of a buffer, then octets s, then what stands in the buffer from octet n on
 abbrev pub filled : ℕ → ℕ → List ℕ → List ℕ → List ℕ
@@ -61,14 +65,10 @@ filled_more k n s rest buffer long below within =
     ap (λ (xs : List ℕ). take k buffer ++ xs) (sym (append_assoc s rest (drop n buffer)))
 
 -- one gate record more
-pub gates_more : (k n : ℕ) (x : GateRecord) (es all : List Gate) (buffer after : List ℕ) → k + 5 ≤ n → n ≤ length buffer →
+pub gates_more : (k l n : ℕ) (x : GateRecord) (es all : List Gate) (buffer after : List ℕ) → l ≡ k + 5 → l ≤ n → n ≤ length buffer →
     all ≡ gate x ∷ es → after ≡ filled k (k + 5) (written_gate x) buffer →
-    filled (k + 5) n (gate_octets es) after ≡ filled k n (gate_octets all) buffer
-gates_more k n x es all buffer after below within first is =
-    ap (filled (k + 5) n (gate_octets es)) is ∙ filled_more k n (written_gate x) (gate_octets es) buffer refl below within ∙
+    filled l n (gate_octets es) after ≡ filled k n (gate_octets all) buffer
+gates_more k l n x es all buffer after behind below within first is =
+    ap (λ (m : ℕ). filled m n (gate_octets es) after) behind ∙ ap (filled (k + 5) n (gate_octets es)) is ∙ filled_more k n (written_gate x) (gate_octets es) buffer refl (omega arith) within ∙
     ap (λ (y : GateRecord). filled k n (written_gate y ++ gate_octets es) buffer) (sym (gate_record-gate x)) ∙
     ap (λ (xs : List Gate). filled k n (gate_octets xs) buffer) (sym first)
-
--- with none to come the buffer is filled
-pub gates-all : (k n : ℕ) (buffer : List ℕ) → k ≡ n → filled k n [] buffer ≡ buffer
-gates-all k n buffer all = ap (λ (m : ℕ). take k buffer ++ drop m buffer) (sym all) ∙ take-append-drop k buffer

@@ -1,7 +1,9 @@
 pub mod Alike
 pub mod Calls
 pub mod Figures
+pub mod GateLists
 pub mod GateOctets
+pub mod Hops
 pub mod Looks
 pub mod Models
 pub mod Moves

@@ -8,7 +8,7 @@ use Rattle.planning.specs.Overlaps.{fits}
 use Rattle.planning.specs.Offers as planning
 use Rattle.plan.specs.declared.row.Row.{Row}
 use Rattle.plan.specs.declared.row.State.TheVariants.{Held}
-use Rattle.plan.specs.Rows.{flow, flows, none, IsFree, Kept}
+use Rattle.plan.specs.Rows.{flow, flows, none, IsFree}
 
 -- the limits of an accepted flow record that its offer needs
 pub record Limited (x : FlowRecord) : Type 0 where
@@ -24,7 +24,6 @@ pub record Made (most : ℕ) (net : Network) (x : Offered) (r : Row) : Type 0 wh
   pub passes : unfit net most x ≡ None
   pub state : r.state ≡ Held
   pub flow : flow r ≡ planning.flow net x 0
-  pub kept : Kept r
 
 -- row k of the rows is free, and the row r that it becomes holds the offered flow at the start that it is answered
 pub record Placed (most : ℕ) (net : Network) (rows : List Row) (x : Offered) (k : ℕ) (r : Row) : Type 0 where
@@ -34,5 +33,4 @@ pub record Placed (most : ℕ) (net : Network) (rows : List Row) (x : Offered) (
   pub fresh : held x.number (flows rows) ≡ false
   pub state : r.state ≡ Held
   pub holds : flow r ≡ planning.flow net x r.start
-  pub kept : Kept r
   pub clear : fits (flows rows) (flow r) ≡ true

@@ -3,69 +3,37 @@ ghost use Rattle.std.specs.Prelude.{◌≡◌, ℕ, ◌+◌, ◌<◌, ◌≤◌,
 ghost use Rattle.planning.specs.Lists.{any};
 ghost use Rattle.planning.specs.Overlaps.{meets, overlaps, fits as fitting, earliest as first_fitting};
 ghost use Rattle.network.specs.Overlap.{starting};
-ghost use Rattle.plan.specs.Rows.{flow, flows, hop, blank, Kept, AllKept};
+ghost use Rattle.plan.specs.Hops.{Within};
+ghost use Rattle.plan.specs.Rows.{flow, flows, hop};
 ghost use Rattle.plan.specs.Moves.{Moves, Skips, blocks, clash, taken};
 
-use crate::row::{Row, State};
+use crate::row::{Hop, Row, State};
 use spans::{Clearance, Spans};
 
 impl Row {
-    // How far spans on a port have to move to clear hop k of this row.
-    fn clears_hop(&self, k: usize, port: u8, moving: &Spans) -> Clearance
-        requires kept { Kept self.now }
-        requires within { k < self.now.count }
-        ensures moves { Moves (clash moving.now port (flow self.now) (hop (slice_index_or self.now.hops k blank))) result }
+    // How far spans on a port have to move to clear a hop of this row.
+    fn clears_hop(&self, at: &Hop, port: u8, moving: &Spans) -> Clearance
+        requires within { Within self.now.period at.now }
+        ensures moves { Moves (clash moving.now port (flow self.now) (hop at.now)) result }
     {
-        let at = self.hops[k];
         if at.port != port {
             return Clearance::Clear;
         }
-        let Some(held) = Spans::new(self.start + at.offset, self.period, at.wire) else {
-            return Clearance::Clear;
-        };
-        moving.clearance(&held)
-    }
-
-    // How far spans on a port have to move to clear every hop of this row there.
-    fn clears_port(&self, port: u8, moving: &Spans) -> Clearance
-        requires kept { Kept self.now }
-        ensures moves { Moves (λ m. any (λ i. clash moving.now port (flow self.now) i m) (flow self.now).hops) result }
-    {
-        for k in 0..self.count as usize {
-            match self.clears_hop(k, port, moving) {
-                Clearance::Clear => {}
-                met => return met,
-            }
-        }
-        Clearance::Clear
-    }
-
-    // How far hop j of another row has to move from start s to clear this row.
-    fn clears_from(&self, other: &Row, j: usize, s: u32) -> Clearance
-        requires kept { Kept self.now }
-        requires other_kept { Kept other.now }
-        requires within { j < other.now.count }
-        requires below { s < other.now.period }
-        ensures moves { Moves (λ m. any (λ i. meets (starting (s + m) (flow other.now)) (hop (slice_index_or other.now.hops j blank)) (flow self.now) i) (flow self.now).hops) result }
-    {
-        let at = other.hops[j];
-        let Some(moving) = Spans::new(s + at.offset, other.period, at.wire) else {
-            return Clearance::Clear;
-        };
-        self.clears_port(at.port, &moving)
+        moving.clearance(&self.spans(at, self.start))
     }
 
     // How far the flow of another row has to move from start s to clear this row.
     pub(crate) fn clears(&self, other: &Row, s: u32) -> Clearance
-        requires kept { Kept self.now }
-        requires other_kept { Kept other.now }
         requires below { s < other.now.period }
         ensures moves { Moves (λ m. overlaps (starting (s + m) (flow other.now)) (flow self.now)) result }
     {
-        for j in 0..other.count as usize {
-            match self.clears_from(other, j, s) {
-                Clearance::Clear => {}
-                met => return met,
+        for at in other.route() {
+            let moving = other.spans(at, s);
+            for held in self.route() {
+                match self.clears_hop(held, at.port, &moving) {
+                    Clearance::Clear => {}
+                    met => return met,
+                }
             }
         }
         Clearance::Clear
@@ -75,12 +43,10 @@ impl Row {
 impl Row {
     // Past this row, from start s on: the first start that its flow does not take, where one is below the period.
     fn past(&self, new: &Row, s: u32) -> Option<u32>
-        requires kept { Kept self.now }
-        requires new_kept { Kept new.now }
         requires below { s < new.now.period }
         ensures skips { Skips (blocks self.now (flow new.now)) new.now.period s result }
     {
-        if let State::Free = self.state {
+        if self.state == State::Free {
             return Some(s);
         }
         match self.clears(new, s) {
@@ -96,8 +62,6 @@ impl Row {
 
 // One look over the rows, from start s on, past each row that the flow clashes with.
 fn pass(rows: &[Row], new: &Row, s: u32) -> Option<u32>
-    requires kept { AllKept rows.now }
-    requires new_kept { Kept new.now }
     requires below { s < new.now.period }
     ensures skips { Skips (taken (flows rows.now) (flow new.now)) new.now.period s result }
 {
@@ -108,22 +72,16 @@ fn pass(rows: &[Row], new: &Row, s: u32) -> Option<u32>
     Some(at)
 }
 
-// Whether the flow of a row fits beside the held ones at its own start.
-pub(crate) fn fits(rows: &[Row], new: &Row) -> bool
-    requires kept { AllKept rows.now }
-    requires new_kept { Kept new.now }
-    ensures value { result ≡ fitting (flows rows.now) (flow new.now) }
+// Whether the flow of a row fits beside the held ones at start s.
+pub(crate) fn fits(rows: &[Row], new: &Row, s: u32) -> bool
+    requires below { s < new.now.period }
+    ensures value { result ≡ fitting (flows rows.now) (starting s (flow new.now)) }
 {
-    match pass(rows, new, new.start) {
-        Some(at) => at == new.start,
-        None => false,
-    }
+    pass(rows, new, s) == Some(s)
 }
 
 // The smallest start below its period at which the flow of a row fits beside the held ones.
 pub(crate) fn earliest(rows: &[Row], new: &Row) -> Option<u32>
-    requires kept { AllKept rows.now }
-    requires new_kept { Kept new.now }
     ensures value { result ≡ first_fitting (flows rows.now) (flow new.now) }
 {
     let mut s = 0;

@@ -4,7 +4,7 @@ ghost use Rattle.line.specs.Meaning.{Meaning};
 ghost use Rattle.network.specs.Flows.{total as total_time};
 ghost use Rattle.planning.specs.Offers.{flowspan as greatest_end};
 ghost use Rattle.planning.specs.Setups.{network, blank};
-ghost use Rattle.plan.specs.Rows.{flow, flows, Kept, AllKept};
+ghost use Rattle.plan.specs.Rows.{flow, flows};
 ghost use Rattle.plan.specs.Setups.{setup as stored};
 
 use crate::row::{Row, State};
@@ -23,31 +23,23 @@ impl Setup {
 impl Row {
     // The total time of its flow: the last hop's offset + wire time + propagation delay.
     fn total(&self, setup: &Setup) -> u32
-        requires kept { Kept self.now }
         ensures value { (m : Meaning) → result ≡ total_time (network m (stored setup.now)) (flow self.now).hops }
         ensures most { result ≤ 1100100000 }
     {
-        if self.count == 0 {
-            return 0;
+        match self.route().last() {
+            Some(last) => last.offset + last.wire + setup.delay(last.port),
+            None => 0,
         }
-        let last = self.hops[self.count as usize - 1];
-        last.offset + last.wire + setup.delay(last.port)
     }
 }
 
 // The flowspan of the flows that rows hold.
 pub(crate) fn flowspan(rows: &[Row], setup: &Setup) -> u32
-    requires kept { AllKept rows.now }
     ensures value { (m : Meaning) → result ≡ greatest_end (network m (stored setup.now)) (flows rows.now) }
 {
-    let mut span = 0;
-    for row in rows {
-        if let State::Held = row.state {
-            let end = row.start + row.total(setup);
-            if span < end {
-                span = end;
-            }
-        }
-    }
-    span
+    rows.iter()
+        .filter(|row| row.state == State::Held)
+        .map(|row| row.start + row.total(setup))
+        .max()
+        .unwrap_or(0)
 }

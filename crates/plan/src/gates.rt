@@ -1,37 +1,28 @@
 // The gate list of a port, from the rows.
-ghost use Rattle.std.specs.Prelude.{◌≡◌, ◌+◌, ◌*◌, ◌<◌, ◌≤◌, min, max, ◌∷◌, ◌++◌, length, get_or, take, drop, if◌then◌else◌, nat_eq, slice_index_or};
-ghost use Rattle.sheet.specs.Writings.{put};
-ghost use Rattle.sheet.specs.Gates.{octet_of, written_gate};
-ghost use Rattle.planning.specs.Gates.{state_by, Lasts, gates_by, gates_from};
-ghost use Rattle.plan.specs.GateOctets.{gate, gate_octets, count_answer};
+ghost use Rattle.std.specs.Prelude.{◌≡◌, ◌+◌, ◌<◌, ◌≤◌, min, max, if◌then◌else◌, nat_eq};
+ghost use Rattle.plan.specs.Hops.{Within};
 ghost use Rattle.plan.specs.Looks.{left_at, next_at, of_hops, left_on, next_on};
-ghost use Rattle.plan.specs.Rows.{flow, flows, hop, blank, Kept, AllKept};
+ghost use Rattle.plan.specs.Rows.{flow, flows, hop};
 
-use crate::row::{Row, State};
+use crate::row::{Hop, Row, State};
 use fault::PlanFault;
 use sheet::{GateRecord, GateState, RecordKind};
-use spans::Spans;
 
 // What is seen from a place.
 #[derive(Clone, Copy)]
 struct Look {
     // for how many places a span that covers it goes on, 0 if none covers it
     left: u32,
-    // how far off the next first instant is, u32::MAX if there is none
+    // how far off the next first instant is; where there is none, u32::MAX, with which `min` gives the other number
     next: u32,
 }
 
 impl Look {
     // Where there is no hop on the port.
-    fn none() -> Look
-        ensures left { result.left ≡ 0 }
-        ensures next { result.next ≡ 0xffff_ffff }
-    {
-        Look {
-            left: 0,
-            next: u32::MAX,
-        }
-    }
+    const NONE: Look = Look {
+        left: 0,
+        next: u32::MAX,
+    };
 
     // This and what is seen of other hops.
     fn both(self, other: Look) -> Look
@@ -46,20 +37,16 @@ impl Look {
 }
 
 impl Row {
-    // What is seen of hop k from a place of a port.
-    fn see_hop(&self, k: usize, port: u8, place: u32) -> Look
-        requires kept { Kept self.now }
-        requires within { k < self.now.count }
-        ensures left { result.left ≡ (if nat_eq (get_or self.now.hops k blank).port port then left_at place (flow self.now) (hop (slice_index_or self.now.hops k blank)) else 0) }
-        ensures next { result.next ≡ (if nat_eq (get_or self.now.hops k blank).port port then next_at place (flow self.now) (hop (slice_index_or self.now.hops k blank)) else 0xffff_ffff) }
+    // What is seen of a hop from a place of a port.
+    fn see_hop(&self, at: &Hop, port: u8, place: u32) -> Look
+        requires within { Within self.now.period at.now }
+        ensures left { result.left ≡ (if nat_eq at.now.port port then left_at place (flow self.now) (hop at.now) else 0) }
+        ensures next { result.next ≡ (if nat_eq at.now.port port then next_at place (flow self.now) (hop at.now) else 0xffff_ffff) }
     {
-        let at = self.hops[k];
         if at.port != port {
-            return Look::none();
+            return Look::NONE;
         }
-        let Some(spans) = Spans::new(self.start + at.offset, self.period, at.wire) else {
-            return Look::none();
-        };
+        let spans = self.spans(at, self.start);
         Look {
             left: at.wire.saturating_sub(spans.since(place)),
             next: spans.until(place),
@@ -68,147 +55,142 @@ impl Row {
 
     // What is seen of the row's hops.
     fn see(&self, port: u8, place: u32) -> Look
-        requires kept { Kept self.now }
         ensures left { result.left ≡ of_hops max 0 (left_at place (flow self.now)) port (flow self.now).hops }
         ensures next { result.next ≡ of_hops min 0xffff_ffff (next_at place (flow self.now)) port (flow self.now).hops }
     {
-        let mut seen = Look::none();
-        for k in 0..self.count as usize {
-            seen = seen.both(self.see_hop(k, port, place));
+        let mut seen = Look::NONE;
+        for at in self.route() {
+            seen = seen.both(self.see_hop(at, port, place));
         }
         seen
     }
 }
 
-// What is seen of the hops of every held flow.
-fn see(rows: &[Row], port: u8, place: u32) -> Look
-    requires kept { AllKept rows.now }
-    ensures left { result.left ≡ left_on (flows rows.now) port place }
-    ensures next { result.next ≡ next_on (flows rows.now) port place }
-{
-    let mut seen = Look::none();
-    for row in rows {
-        if let State::Held = row.state {
-            seen = seen.both(row.see(port, place));
+// The gates of a port in a cycle, with a guard band, as the rows of a plan have them.
+#[derive(Clone, Copy)]
+pub(crate) struct PortGates<'a> {
+    pub rows: &'a [Row],
+    pub port: u8,
+    pub cycle: u32,
+    pub guard: u32,
+    ghost cycle_most: { cycle ≤ 1000000000 },
+    ghost guard_most: { guard ≤ 10000000 },
+}
+
+impl<'a> PortGates<'a> {
+    ghost use Rattle.std.specs.Prelude.{◌∷◌, ◌*◌, length};
+    ghost use Rattle.sheet.specs.Gates.{octet_of};
+    ghost use Rattle.sheet.specs.Writings.{put};
+    ghost use Rattle.planning.specs.Gates.{state_by, Lasts, gates_from};
+    ghost use Rattle.plan.specs.GateLists.{list, left};
+    ghost use Rattle.plan.specs.GateOctets.{gate, gate_octets, count_answer};
+
+    // What is seen of the hops of every held flow.
+    fn see(&self, place: u32) -> Look
+        ensures left { result.left ≡ left_on (flows self.now.rows.now) self.now.port place }
+        ensures next { result.next ≡ next_on (flows self.now.rows.now) self.now.port place }
+    {
+        let mut seen = Look::NONE;
+        for row in self.rows {
+            if row.state == State::Held {
+                seen = seen.both(row.see(self.port, place));
+            }
+        }
+        seen
+    }
+
+    // The state at a place, and a number of places for which it lasts.
+    fn state_at(&self, place: u32) -> GateRecord
+        requires place { place < self.now.cycle }
+        ensures some { 0 < result.duration }
+        ensures within { place + result.duration ≤ self.now.cycle }
+        ensures lasts { Lasts (state_by self.now.guard (flows self.now.rows.now) self.now.port) place result.duration (octet_of result.state) }
+    {
+        let seen = self.see(place);
+        let (state, places) = if seen.left > 0 {
+            (GateState::Scheduled, seen.left)
+        } else if seen.next <= self.guard {
+            (GateState::Closed, seen.next)
+        } else {
+            (GateState::BestEffort, seen.next - self.guard)
+        };
+        // Cut off where the cycle ends.
+        GateRecord {
+            state,
+            duration: places.min(self.cycle - place),
         }
     }
-    seen
-}
 
-// A state that lasts n places, cut off where the cycle ends.
-fn cut_off(state: GateState, n: u32, rest: u32) -> GateRecord
-    ensures state { result.state ≡ state }
-    ensures duration { result.duration ≡ min n rest }
-{
-    GateRecord {
-        state,
-        duration: n.min(rest),
-    }
-}
-
-// The state at a place, and a number of places for which it lasts.
-fn state_at(rows: &[Row], port: u8, cycle: u32, guard: u32, place: u32) -> GateRecord
-    requires kept { AllKept rows.now }
-    requires guard { guard ≤ 10000000 }
-    requires place { place < cycle }
-    ensures some { 0 < result.duration }
-    ensures within { place + result.duration ≤ cycle }
-    ensures lasts { Lasts (state_by guard (flows rows.now) port) place result.duration (octet_of result.state) }
-{
-    let seen = see(rows, port, place);
-    let rest = cycle - place;
-    if seen.left > 0 {
-        cut_off(GateState::Scheduled, seen.left, rest)
-    } else if seen.next <= guard {
-        cut_off(GateState::Closed, seen.next, rest)
-    } else {
-        cut_off(GateState::BestEffort, seen.next - guard, rest)
-    }
-}
-
-// The gate record from a place on: its state lasts until another follows or the cycle ends.
-fn stretch(rows: &[Row], port: u8, cycle: u32, guard: u32, place: u32) -> GateRecord
-    requires kept { AllKept rows.now }
-    requires guard { guard ≤ 10000000 }
-    requires place { place < cycle }
-    ensures some { 0 < result.duration }
-    ensures within { place + result.duration ≤ cycle }
-    ensures first { gates_from guard cycle (flows rows.now) port place ≡ gate result ∷ gates_from guard cycle (flows rows.now) port (place + result.duration) }
-{
-    let mut found = state_at(rows, port, cycle, guard, place);
-    while place + found.duration < cycle {
-        let more = state_at(rows, port, cycle, guard, place + found.duration);
-        if more.state != found.state {
-            return found;
+    // The gate record from a place on: its state lasts until another follows or the cycle ends.
+    fn stretch(&self, place: u32) -> GateRecord
+        requires place { place < self.now.cycle }
+        ensures some { 0 < result.duration }
+        ensures within { place + result.duration ≤ self.now.cycle }
+        ensures first { gates_from self.now.guard self.now.cycle (flows self.now.rows.now) self.now.port place ≡ gate result ∷ gates_from self.now.guard self.now.cycle (flows self.now.rows.now) self.now.port (place + result.duration) }
+    {
+        let mut found = self.state_at(place);
+        while place + found.duration < self.cycle {
+            let more = self.state_at(place + found.duration);
+            if more.state != found.state {
+                return found;
+            }
+            found.duration += more.duration;
         }
-        found.duration += more.duration;
+        found
     }
-    found
-}
 
-// How many gate records a port has.
-fn count(rows: &[Row], port: u8, cycle: u32, guard: u32) -> usize
-    requires kept { AllKept rows.now }
-    requires guard { guard ≤ 10000000 }
-    ensures value { result ≡ length (gates_by guard cycle (flows rows.now) port) }
-    ensures few { result ≤ cycle }
-{
-    let mut place = 0;
-    let mut count = 0;
-    while place < cycle {
-        place += stretch(rows, port, cycle, guard, place).duration;
-        count += 1;
+    // Its gate records in their order.
+    fn records(&self) -> GateRecords<'a>
+        ensures all { left result ≡ list self.now }
+    {
+        GateRecords {
+            gates: *self,
+            place: 0,
+        }
     }
-    count
-}
 
-// Writes a gate record at an octet of the buffer.
-fn write_at(found: &GateRecord, at: usize, buffer: &mut [u8])
-    requires least { 1 ≤ found.now.duration }
-    requires most { found.now.duration ≤ 1000000000 }
-    requires long { at + 5 ≤ length buffer.old }
-    ensures after { buffer.new ≡ take at buffer.old ++ (written_gate found.now ++ drop (at + 5) buffer.old) }
-{
-    // Within its limits, and with room for it, it is never refused.
-    let _ = found.write(&mut buffer[at..]);
-}
-
-// Writes the gate records of a port from the front of the buffer.
-fn write(rows: &[Row], port: u8, cycle: u32, guard: u32, buffer: &mut [u8])
-    requires kept { AllKept rows.now }
-    requires cycle { cycle ≤ 1000000000 }
-    requires guard { guard ≤ 10000000 }
-    requires long { 5 * length (gates_by guard cycle (flows rows.now) port) ≤ length buffer.old }
-    ensures after { buffer.new ≡ gate_octets (gates_by guard cycle (flows rows.now) port) ++ drop (5 * length (gates_by guard cycle (flows rows.now) port)) buffer.old }
-{
-    let mut place = 0;
-    let mut at = 0;
-    while place < cycle {
-        let found = stretch(rows, port, cycle, guard, place);
-        write_at(&found, at, buffer);
-        place += found.duration;
-        at += 5;
+    // Writes the gate list from the front of the buffer, and answers how many records it has.
+    pub(crate) fn write(&self, buffer: &mut [u8]) -> Result<usize, PlanFault>
+        ensures value { result ≡ count_answer (length (list self.now)) (length buffer.old) }
+        ensures after { buffer.new ≡ put result (5 * length (list self.now)) (gate_octets (list self.now)) buffer.old }
+    {
+        let count = self.records().count();
+        if 5 * count > buffer.len() {
+            return Err(PlanFault::Buffer);
+        }
+        for (k, record) in self.records().enumerate() {
+            // Within its limits, and with room for it, it is never refused.
+            let _ = record.write(&mut buffer[5 * k..]);
+        }
+        Ok(count)
     }
 }
 
-// Writes the gate list of a port from the front of the buffer, and answers how many records it has.
-pub(crate) fn gate_list(
-    rows: &[Row],
-    port: u8,
-    cycle: u32,
-    guard: u32,
-    buffer: &mut [u8],
-) -> Result<usize, PlanFault>
-    requires kept { AllKept rows.now }
-    requires cycle { cycle ≤ 1000000000 }
-    requires guard { guard ≤ 10000000 }
-    ensures value { result ≡ count_answer (length (gates_by guard cycle (flows rows.now) port)) (length buffer.old) }
-    ensures after { buffer.new ≡ put result (5 * length (gates_by guard cycle (flows rows.now) port)) (gate_octets (gates_by guard cycle (flows rows.now) port)) buffer.old }
-{
-    let records = count(rows, port, cycle, guard);
-    if 5 * records > buffer.len() {
-        return Err(PlanFault::Buffer);
+// The gate records of a port from a place of the cycle on.
+#[derive(Drop)]
+struct GateRecords<'a> {
+    gates: PortGates<'a>,
+    place: u32,
+    ghost within: { place ≤ gates.cycle },
+}
+
+impl<'a> Iterator for GateRecords<'a> {
+    ghost use Rattle.std.specs.Iterator.{YieldsFirstBy, item_count};
+    ghost use Rattle.plan.specs.GateLists.{left};
+    ghost use Rattle.plan.specs.GateOctets.{gate};
+
+    type Item = GateRecord;
+
+    ghost next_gives = { YieldsFirstBy gate left };
+
+    ghost remaining = { item_count left };
+
+    fn next(&mut self) -> Option<GateRecord> {
+        if self.place == self.gates.cycle {
+            return None;
+        }
+        let record = self.gates.stretch(self.place);
+        self.place += record.duration;
+        Some(record)
     }
-    write(rows, port, cycle, guard, buffer);
-    Ok(records)
 }

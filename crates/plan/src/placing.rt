@@ -3,7 +3,7 @@ ghost use Rattle.std.specs.Prelude.{◌≡◌, Some, Ok, Err};
 ghost use Rattle.planning.specs.Offers.{placed, unfit, flow as offered_flow};
 ghost use Rattle.plan.specs.Calls.{offered};
 ghost use Rattle.plan.specs.Offers.{Limited, Made};
-ghost use Rattle.plan.specs.Rows.{flow as row_flow, flows, Kept, AllKept};
+ghost use Rattle.plan.specs.Rows.{flow as row_flow, flows};
 ghost use Rattle.plan.specs.Timings.{network};
 
 use crate::fit::{earliest, fits};
@@ -36,25 +36,12 @@ pub(crate) fn made<L: Line>(line: &L, setup: &Setup, flow: &FlowRecord) -> Resul
 
 // The start of the flow of a row beside the held ones: the chosen one, or the earliest.
 pub(crate) fn start_beside(rows: &[Row], row: &Row, start: Option<u32>) -> Result<u32, PlanFault>
-    requires kept { AllKept rows.now }
-    requires row_kept { Kept row.now }
     ensures value { result ≡ placed (flows rows.now) start (row_flow row.now) }
 {
     match start {
-        Some(s) => {
-            if s >= row.period {
-                return Err(PlanFault::Start);
-            }
-            let moved = Row { start: s, ..*row };
-            if fits(rows, &moved) {
-                Ok(s)
-            } else {
-                Err(PlanFault::Taken)
-            }
-        }
-        None => match earliest(rows, row) {
-            Some(s) => Ok(s),
-            None => Err(PlanFault::NoStart),
-        },
+        Some(s) if s >= row.period => Err(PlanFault::Start),
+        Some(s) if fits(rows, row, s) => Ok(s),
+        Some(_) => Err(PlanFault::Taken),
+        None => earliest(rows, row).ok_or(PlanFault::NoStart),
     }
 }

@@ -1,7 +1,7 @@
 // A plan on a line.
 ghost use Rattle.std.specs.Prelude.{◌≡◌, length};
 ghost use Rattle.network.specs.Overlap.{Overlap};
-ghost use Rattle.plan.specs.Plans.{Starts, Counts, Hops, Namesakes, Two, Waiting};
+ghost use Rattle.plan.specs.Plans.{Namesakes, Two, Waiting};
 
 mod ask;
 mod call;
@@ -15,17 +15,13 @@ use crate::row::Row;
 use crate::setup::Setup;
 use line::Line;
 
-// Its line, what it was set up with, and its rows: no two flows of one number, no start that is not below its period,
-// no two spans that overlap.
+// Its line, what it was set up with, and its rows: no two flows of one number, and no two spans that overlap.
 #[derive(Drop)]
 pub struct Plan<L: Line> {
     line: L,
     setup: Option<Setup>,
     rows: [Row; 64],
     ghost long: { length rows ≡ 64 },
-    ghost starts: { Starts rows },
-    ghost counts: { Counts rows },
-    ghost hops: { Hops rows },
     ghost numbers: { (Two Namesakes rows → ⊥) },
     ghost apart: { (Two Overlap rows → ⊥) },
     ghost waiting: { Waiting setup rows },

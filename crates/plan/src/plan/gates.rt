@@ -3,7 +3,7 @@ ghost use Rattle.std.specs.Prelude.{◌≡◌, length};
 ghost use Rattle.plan.specs.Models.{model, wires};
 ghost use Rattle.plan.specs.Steps.{gates_answer, list_written};
 
-use crate::gates::gate_list;
+use crate::gates::PortGates;
 use crate::plan::Plan;
 use fault::PlanFault;
 use line::Line;
@@ -23,6 +23,12 @@ impl<L: Line> Plan<L> {
         }
         let figures = setup.port(port);
         let guard = self.line.wire_time(port, figures.best);
-        gate_list(&self.rows, port, setup.cycle, guard, buffer)
+        let gates = PortGates {
+            rows: &self.rows,
+            port,
+            cycle: setup.cycle,
+            guard,
+        };
+        gates.write(buffer)
     }
 }

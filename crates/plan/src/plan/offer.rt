@@ -24,15 +24,15 @@ impl<L: Line> Plan<L> {
         requires limited { Limited flow.now }
         ensures placed { elim result [ Ok p ↦ Placed L.most (network (L.meaning self.now.line) setup.now) self.now.rows (offered flow.now) p.0 p.1 | Err e ↦ answer (network (L.meaning self.now.line) setup.now) L.most (held self.now.rows) (offered flow.now) ≡ Err e ] }
     {
-        if let Some(_) = find(&self.rows, flow.number) {
+        if find(&self.rows, flow.number).is_some() {
             return Err(PlanFault::NumberHeld);
         }
         let Some(k) = free_row(&self.rows) else {
             return Err(PlanFault::Full);
         };
-        let row = made(&self.line, setup, flow)?;
-        let start = start_beside(&self.rows, &row, flow.start)?;
-        Ok((k, Row { start, ..row }))
+        let mut row = made(&self.line, setup, flow)?;
+        row.start = start_beside(&self.rows, &row, flow.start)?;
+        Ok((k, row))
     }
 
     // Adds the flow of a record of a sheet, and answers its start: the chosen one, or the earliest.

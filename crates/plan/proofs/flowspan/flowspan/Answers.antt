@@ -1,35 +1,19 @@
--- One row more: the greatest so far is that of the flow, where it is greater.
-use Rattle.std.proofs.Common.{◌+◌, max, get_or, drop, arith}
-use Rattle.std.proofs.lemmas.List.{at_drop_more, at_drop_all}
-use Rattle.planning.specs.Offers.{flowspan}
+-- The greatest of the ends of the held flows.
+use Rattle.std.proofs.Common.{rules, ◌∙◌}
+use borrow.Author.Tests.{tests}
+use Rattle.std.proofs.lemmas.Iterator.{YieldsList-from_slice, YieldsList-from_map}
+use Rattle.std.proofs.lemmas.Iterator.Consumers.{YieldsList-from_filter, max_from_yields_List}
 use Rattle.planning.specs.Setups.{network}
-use Rattle.plan.specs.Rows.{flows, none}
 use Rattle.plan.specs.Setups.{setup}
-use Rattle.plan.proofs.Totals.{flowspan-free, flowspan-held}
+use Rattle.plan.proofs.Totals.{is_held, held-tested, end, greatest-flowspan}
 use Rattle.plan.proofs.flowspan.flowspan.Goals as goal
-use Rattle.plan.proofs.flowspan.flowspan.Goals.{in-Held+then-span-end, in-Held+else-span-end, in_default}
-
-pub loop-row-preserved : goal.loop-row-preserved
-loop-row-preserved c = λ m.
-    let net = network m (setup c.args.setup.now) in
-    let rows = c.args.rows.now in
-    let k = c.loop-row.row-index in
-    let row = get_or rows k none in
-    let rest = drop (k + 1) rows in
-    let span = c.loop-row.span in
-    let inv = c.loop-row.invariant m in
-    let next = at_drop_more (λ rs. max span (flowspan net (flows rs))) rows k none c.loop-row-test.true in
-    elim c.match-row.branch [
-      | in-Held+then-span-end w ↦ let held = flowspan-held net row rest span w.in-Held.is in let time = w.total.ensures.value m in omega arith
-      | in-Held+else-span-end w ↦ let held = flowspan-held net row rest span w.in-Held.is in let time = w.total.ensures.value m in omega arith
-      | in_default w ↦ let free = flowspan-free net row rest span w.in_default.not-Held in omega arith
-    ]
 
 pub returns : goal.returns
 returns c = record {
   value = λ m.
       let net = network m (setup c.args.setup.now) in
-      let inv = c.loop-row.invariant m in
-      let end = at_drop_all (λ rs. max c.loop-row.span (flowspan net (flows rs))) c.args.rows.now c.loop-row.row-index c.loop-row-test.false in
-      omega arith;
+      let rows = c.args.rows.now in
+      let greatest = max_from_yields_List _ _ c.max.ensures.ran
+      (YieldsList-from_map _ (end net) (YieldsList-from_filter _ is_held (YieldsList-from_slice rows cc) (cc) (λ x b q k. (search (rules, tests), held-tested x.now b (λ is. search (rules, tests)) (λ is held. search (rules, tests))))) c.map.ensures.closure (λ x r q k. (search rules, search rules))) in
+      c.unwrap_or.ensures ∙ greatest-flowspan net rows _ greatest;
 }

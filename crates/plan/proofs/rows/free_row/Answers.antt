@@ -1,7 +1,15 @@
--- A look over all rows that finds none free has shown that each holds a flow.
-use Rattle.std.proofs.Common.{arith}
-use Rattle.plan.proofs.Held.{flows_full}
+-- The first row that is free, and where there is none each holds a flow.
+use Rattle.std.proofs.Common.{rules}
+use borrow.Author.Tests.{tests}
+use Rattle.std.proofs.lemmas.Iterator.{YieldsList-from_slice, IsFirst-from_position}
+use Rattle.plan.specs.Rows.{IsFree}
+use Rattle.plan.proofs.Held.{first_free}
 use Rattle.plan.proofs.rows.free_row.Goals as goal
 
 pub returns : goal.returns
-returns c = record { cases = flows_full c.args.rows.now (λ k below. c.loop-k.invariant k (omega arith)) }
+returns c =
+    let all = c.args.rows.now in
+    record {
+      cases = first_free all _
+          (IsFirst-from_position _ _ _ IsFree (λ row. IsFree row → ⊥) c.position.ensures.ran (YieldsList-from_slice all cc) (λ x q k. search (rules, tests)) (λ x q k. search (rules, tests)));
+    }

@@ -7,9 +7,9 @@ use Rattle.plan.proofs.rows.no_rows.Goals as goal
 
 pub returns : goal.returns
 returns c =
-    let is = c.no_row-row.ensures.value in
+    let is = c.no_row.ensures.value in
     record {
       long = refl;
-      each = λ k below. get_or-replicate 64 k c.no_row-row.result none below ∙ is;
+      each = λ k below. get_or-replicate 64 k c.no_row.result none below ∙ is;
       flows = ap (λ (r : Row). flows (replicate 64 r)) is;
     }

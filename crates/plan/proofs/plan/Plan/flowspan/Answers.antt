@@ -1,18 +1,10 @@
--- Every row keeps what leaves room for the sums, and the rows' flowspan is the answer.
-use Rattle.std.proofs.Common.{Ok, sym, refl, ap, ◌∙◌, arith}
+-- The rows' flowspan is the answer.
+use Rattle.std.proofs.Common.{Ok, sym, refl, ap, ◌∙◌}
 use Rattle.plan.specs.Calls.{Wires}
 use Rattle.plan.specs.Models.{model, setup}
 use Rattle.plan.specs.Setups as stored
 use Rattle.plan.proofs.Asked.{flowspan-answered}
-use Rattle.plan.proofs.Laws.{laws_of}
 use Rattle.plan.proofs.plan.Plan.flowspan.Goals as goal
-
-pub flowspan-requires : goal.flowspan-requires
-flowspan-requires g c =
-    let plan = c.args.self.now in
-    let long = plan.long in
-    let laws = laws_of plan.rows plan.long plan.starts plan.counts plan.hops plan.numbers plan.apart in
-    record { kept = λ k within. laws.kept k (omega arith) }
 
 pub returns : goal.returns
 returns g c =

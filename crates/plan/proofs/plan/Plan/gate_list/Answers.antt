@@ -3,18 +3,8 @@ use Rattle.std.proofs.Common.{ℕ, sym, refl, ap, ◌∙◌, arith}
 use Rattle.planning.specs.Setups as planning
 use Rattle.plan.specs.Models.{model, setup, wires}
 use Rattle.plan.specs.Setups as stored
-use Rattle.plan.proofs.Laws.{laws_of}
 use Rattle.plan.proofs.Listing.{list-answered, list_put}
 use Rattle.plan.proofs.plan.Plan.gate_list.Goals as goal
-
-pub gate_list-requires : goal.gate_list-requires
-gate_list-requires g c =
-    let plan = c.args.self.now in
-    let long = plan.long in
-    let laws = laws_of plan.rows plan.long plan.starts plan.counts plan.hops plan.numbers plan.apart in
-    let told = c.wire_time-guard.ensures.value in
-    let short = g.met.L.Line.bounded plan.line c.args.port c.port-figures.result.best in
-    record { kept = λ k below. laws.kept k (omega arith); cycle = c.in-Some.setup.greatest; guard = omega arith }
 
 pub returns : goal.returns
 returns g c =
@@ -27,9 +17,9 @@ returns g c =
     let told = c.ports.ensures.value in
     let best = ap (λ (p : planning.Port). p.best) c.port-figures.ensures.value in
     let band = c.wire_time-guard.ensures.value ∙ ap (λ (l : ℕ). w.meaning.time q l) best in
-    let value = c.gate_list.ensures.value in
+    let value = c.write.ensures.value in
     record {
       value = value ∙ sym (list-answered w m config q c.wire_time-guard.result ready (omega arith) band _);
       same = refl;
-      after = c.gate_list.ensures.after ∙ list_put w m config q c.wire_time-guard.result ready (omega arith) band _ _ value;
+      after = c.write.ensures.after ∙ list_put w m config q c.wire_time-guard.result ready (omega arith) band _ _ value;
     }

@@ -1,5 +1,5 @@
 -- A refusal is passed on, and a done offer has its row in a free one.
-use Rattle.std.proofs.Common.{ℕ, ◌<◌, List, ◌∷◌, set, sym, refl, ap, ◌∙◌, subst, ap₂, arith}
+use Rattle.std.proofs.Common.{ℕ, ◌<◌, List, ◌∷◌, get_or, set, sym, refl, ap, ◌∙◌, subst, ap₂, arith, length-set}
 use Rattle.std.proofs.lemmas.Bool.{false≢true}
 use Rattle.sheet.specs.Flows.{read_flow}
 use Rattle.sheet.specs.Sheets.{read_at}
@@ -11,11 +11,10 @@ use Rattle.planning.proofs.Overlaps.{decides-fits}
 use Rattle.plan.specs.Models.{model, setup, wires}
 use Rattle.plan.specs.Offers.{Limited}
 use Rattle.plan.specs.Plans.{Namesakes}
-use Rattle.plan.specs.Rows.{flow, flows}
+use Rattle.plan.specs.Rows.{flow, flows, none}
 use Rattle.plan.specs.Setups as stored
 use Rattle.plan.proofs.Asked.{never_both}
 use Rattle.plan.proofs.Held.{held-some, flows-at, each-flow, flows-added}
-use Rattle.plan.proofs.Laws.{laws_of, laws-set, laws_starts, laws_counts, laws-hops}
 use Rattle.plan.proofs.Offering.{offer_read, added_read}
 use Rattle.plan.proofs.Records.{read_at_ok, flow_limited}
 use Rattle.plan.proofs.Two.{two-added}
@@ -35,24 +34,17 @@ invariant_of-self g c =
     let long = plan.long in
     let row = placed.row in
     let below : k < 64 = omega arith in
-    let old = laws_of rows plan.long plan.starts plan.counts plan.hops plan.numbers plan.apart in
     let number = ap (λ (f : Flow). f.number) placed.holds in
-    let repeat = each-flow (λ f. 0 < f.period) rows (λ j within. (old.kept j (omega arith)).period_least) in
-    let clear = (decides-fits (flows rows) repeat (flow new) placed.kept.period_least).0 placed.clear in
-    let laws = laws-set rows k new below old placed.kept
-    (two-added Namesakes rows k new long below
-    (λ j within busy same. false≢true (sym placed.fresh ∙ held-some _ rows j (omega arith) (busy, sym same ∙ number)))
-    (λ j within busy same. false≢true (sym placed.fresh ∙ held-some _ rows j (omega arith) (busy, same ∙ number))))
-    (two-added Overlap rows k new long below
-    (λ j within busy overlap. let at = flows-at rows j (omega arith) busy in clear at.0 _ at.1 overlap)
-    (λ j within busy overlap. let at = flows-at rows j (omega arith) busy in clear at.0 _ at.1 (overlap-sym overlap))) in
+    let repeat = each-flow (λ f. 0 < f.period) rows (λ j within. (get_or rows j none).period_least) in
+    let clear = (decides-fits (flows rows) repeat (flow new) new.period_least).0 placed.clear in
     record {
-      long = laws.long;
-      starts = laws_starts laws;
-      counts = laws_counts laws;
-      hops = laws-hops laws;
-      numbers = laws.numbers;
-      apart = laws.apart;
+      long = length-set rows k new ∙ long;
+      numbers = λ two. plan.numbers (two-added Namesakes rows k new long below
+          (λ j within busy same. false≢true (sym placed.fresh ∙ held-some _ rows j (omega arith) (busy, sym same ∙ number)))
+          (λ j within busy same. false≢true (sym placed.fresh ∙ held-some _ rows j (omega arith) (busy, same ∙ number))) two);
+      apart = λ two. plan.apart (two-added Overlap rows k new long below
+          (λ j within busy overlap. let at = flows-at rows j (omega arith) busy in clear at.0 _ at.1 overlap)
+          (λ j within busy overlap. let at = flows-at rows j (omega arith) busy in clear at.0 _ at.1 (overlap-sym overlap)) two);
       waiting = λ unset. never_both c.in-Some.is unset;
     }
 

@@ -1,5 +1,5 @@
 -- Each refusal is the first whose condition holds.
-use Rattle.std.proofs.Common.{sym, ap, ◌∙◌, arith}
+use Rattle.std.proofs.Common.{sym, ap, ◌∙◌}
 use Rattle.std.proofs.lemmas.Result.{err_from_is_err_and}
 use Rattle.network.specs.Flows.{Flow}
 use Rattle.network.specs.Overlap.{starting}
@@ -7,25 +7,17 @@ use Rattle.planning.specs.Offers.{placed}
 use Rattle.plan.specs.Calls.{offered}
 use Rattle.plan.specs.Rows.{flow, flows}
 use Rattle.plan.specs.Timings.{network}
-use Rattle.plan.proofs.Held.{held-some, room-left}
-use Rattle.plan.proofs.Laws.{laws_of}
+use Rattle.plan.proofs.Held.{held-found, room-left}
 use Rattle.plan.proofs.Offering.{answer-held, answer-unfit, answer-placed, placed-fits}
 use Rattle.plan.proofs.plan.Plan.place.Goals as goal
 
-pub returns-in-Some : goal.returns-in-Some
-returns-in-Some g c =
+pub returns-then-is_some : goal.returns-then-is_some
+returns-then-is_some g c =
     let plan = c.args.self.now in
     let x = offered c.args.flow.now in
     let net = network (g.L.Line.meaning plan.line) c.args.setup.now in
-    let found = c.in-Some.ensures.cases in
-    record { placed = answer-held net g.L.Line.most (flows plan.rows) x (held-some x.number plan.rows _ found.0 found.1) }
-
-pub start_beside-requires : goal.start_beside-requires
-start_beside-requires g c =
-    let plan = c.args.self.now in
-    let long = plan.long in
-    let laws = laws_of plan.rows plan.long plan.starts plan.counts plan.hops plan.numbers plan.apart in
-    record { kept = λ k below. laws.kept k (omega arith); row_kept = c.in_ok-row.ensures.made.kept }
+    let named = held-found x.number plan.rows _ c.find.ensures.cases in
+    record { placed = answer-held net g.L.Line.most (flows plan.rows) x (named ∙ (cc)) }
 
 pub returns-in_err-row : goal.returns-in_err-row
 returns-in_err-row g c =
@@ -33,22 +25,27 @@ returns-in_err-row g c =
     let x = offered c.args.flow.now in
     let net = network (g.L.Line.meaning plan.line) c.args.setup.now in
     let p = err_from_is_err_and c.from_residual.result c.from_residual.ensures.1 in
-    let free = c.in-Some-free_row.ensures.cases in
+    let free = c.in-Some.ensures.cases in
     rw (p.1, p.2) (record {
-      placed = answer-unfit net g.L.Line.most (flows plan.rows) x c.in_default.ensures.cases (room-left plan.rows _ plan.long free.0 free.1) c.in_err-row.ensures.made;
+      placed = answer-unfit net g.L.Line.most (flows plan.rows) x (held-found x.number plan.rows _ c.find.ensures.cases ∙ (cc)) (room-left plan.rows _ plan.long free.0 free.1) c.in_err-row.ensures.made;
     })
 
-pub returns-in_err-start : goal.returns-in_err-start
-returns-in_err-start g c =
+pub returns-in_err-row-2 : goal.returns-in_err-row-2
+returns-in_err-row-2 g c =
     let plan = c.args.self.now in
     let x = offered c.args.flow.now in
     let net = network (g.L.Line.meaning plan.line) c.args.setup.now in
-    let p = err_from_is_err_and c.from_residual-in_err-start.result c.from_residual-in_err-start.ensures.1 in
-    let free = c.in-Some-free_row.ensures.cases in
+    let p = err_from_is_err_and c.from_residual-in_err-row-2.result c.from_residual-in_err-row-2.ensures.1 in
+    let free = c.in-Some.ensures.cases in
     let made = c.in_ok-row.ensures.made in
-    let done = answer-placed net g.L.Line.most (flows plan.rows) x c.in_default.ensures.cases (room-left plan.rows _ plan.long free.0 free.1) made.passes in
+    let done = answer-placed net g.L.Line.most (flows plan.rows) x (held-found x.number plan.rows _ c.find.ensures.cases ∙ (cc)) (room-left plan.rows _ plan.long free.0 free.1) made.passes in
     let at = ap (λ (f : Flow). placed (flows plan.rows) x.chosen f) made.flow in
-    rw (p.1, p.2) (record { placed = done ∙ sym at ∙ sym c.in_err-start.ensures.value })
+    rw (p.1, p.2) (record { placed = done ∙ sym at ∙ sym c.in_err-row-2.ensures.value })
+
+pub invariant_of-row-clause-below : goal.invariant_of-row-clause-below
+invariant_of-row-clause-below g c =
+    let made = c.in_ok-row.row in
+    (placed-fits (flows c.args.self.now.rows) c.args.flow.now.start (flow made) c.in_ok-row-2.field-0 (sym c.in_ok-row-2.ensures.value)).0
 
 pub returns : goal.returns
 returns g c =
@@ -56,15 +53,14 @@ returns g c =
     let x = offered c.args.flow.now in
     let net = network (g.L.Line.meaning plan.line) c.args.setup.now in
     let row = c.in_ok-row.row in
-    let s = c.in_ok-start.start in
-    let free = c.in-Some-free_row.ensures.cases in
+    let s = c.in_ok-row-2.field-0 in
+    let free = c.in-Some.ensures.cases in
     let made = c.in_ok-row.ensures.made in
-    let fresh = c.in_default.ensures.cases in
-    let value = c.in_ok-start.ensures.value in
+    let fresh = (held-found x.number plan.rows _ c.find.ensures.cases ∙ (cc)) in
+    let value = c.in_ok-row-2.ensures.value in
     let done = answer-placed net g.L.Line.most (flows plan.rows) x fresh (room-left plan.rows _ plan.long free.0 free.1) made.passes in
     let at = ap (λ (f : Flow). placed (flows plan.rows) x.chosen f) made.flow in
     let fitting = placed-fits (flows plan.rows) c.args.flow.now.start (flow row) s (sym value) in
-    let kept = made.kept in
     record {
       placed = record {
         done = done ∙ sym at ∙ sym value;
@@ -73,15 +69,6 @@ returns g c =
         fresh = fresh;
         state = made.state;
         holds = ap (starting s) made.flow;
-        kept = record {
-          period_least = kept.period_least;
-          period_most = kept.period_most;
-          start = fitting.0;
-          long = kept.long;
-          count = kept.count;
-          offsets = kept.offsets;
-          wires = kept.wires;
-        };
         clear = fitting.1;
       };
     }

@@ -1,6 +1,9 @@
 -- The row that was found has the start, and where none was found the number is not held.
-use Rattle.std.proofs.Common.{Some, None, sym, refl, ap}
+use Rattle.std.proofs.Common.{Some, None, sym, refl, ap, ◌∙◌}
+use Rattle.std.proofs.lemmas.List.{get_or_default}
+use Rattle.plan.specs.declared.row.Row.{Row}
 use Rattle.plan.specs.Models.{model, setup}
+use Rattle.plan.specs.Rows.{none}
 use Rattle.plan.specs.Setups as stored
 use Rattle.plan.proofs.Asked.{start-answered}
 use Rattle.plan.proofs.Held.{start-found, start_none}
@@ -13,7 +16,8 @@ returns-in-Some-find g c =
     let found = c.in-Some-find.ensures.cases in
     record {
       value = sym (start-answered (model plan.setup plan.rows) (stored.setup c.in-Some.field-0) n (Some _) (ap setup c.in-Some.is)
-          (start-found n plan.rows c.in-Some-find.k found.0 found.1 found.2));
+          (start-found n plan.rows c.in-Some-find.k found.0 found.1 found.2
+          ∙ ap (λ (r : Row). Some r.start) (get_or_default plan.rows c.in-Some-find.k none c.index-self-k.result found.0)));
       same = refl;
     }
 

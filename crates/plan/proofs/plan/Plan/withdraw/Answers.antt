@@ -1,16 +1,14 @@
 -- The row that held the number is free again, and the others are as they were.
-use Rattle.std.proofs.Common.{◌≡◌, ℕ, ◌<◌, Some, None, Ok, Err, Result, sym, refl, ap, subst, arith}
+use Rattle.std.proofs.Common.{◌≡◌, ℕ, ◌<◌, Some, None, Ok, Err, Result, sym, refl, ap, ◌∙◌, length-set, arith}
 use Rattle.fault.specs.declared.kinds.PlanFault.{PlanFault}
 use Rattle.network.specs.Overlap.{Overlap}
 use Rattle.plan.specs.declared.row.Row.{Row}
 use Rattle.plan.specs.declared.row.State.TheVariants.{Free}
 use Rattle.plan.specs.Models.{model, setup}
 use Rattle.plan.specs.Plans.{Namesakes}
-use Rattle.plan.specs.Rows.{Kept}
 use Rattle.plan.specs.Setups as stored
 use Rattle.plan.proofs.Asked.{start-answered, never_both}
 use Rattle.plan.proofs.Held.{start-found, start_none, flows_removed}
-use Rattle.plan.proofs.Laws.{laws_of, laws_starts, laws_counts, laws-hops, laws-set, free-kept}
 use Rattle.plan.proofs.Two.{two_freed, only_row}
 use Rattle.plan.proofs.plan.Plan.withdraw.Goals as goal
 
@@ -32,22 +30,15 @@ invariant_of-self g c =
     let plan = c.args.self.now in
     let k = c.in-Some-find.k in
     let new = c.no_row.result in
-    let is = c.no_row.ensures.value in
     let long = plan.long in
     let found = c.in-Some-find.ensures.cases in
     let below : k < 64 = omega arith in
-    let freed : new.state ≡ Free = ap (λ (r : Row). r.state) is in
-    let kept = subst Kept (sym is) free-kept in
-    let laws = laws-set plan.rows k new below (laws_of plan.rows plan.long plan.starts plan.counts plan.hops plan.numbers plan.apart) kept
-    (two_freed Namesakes plan.rows k new long below freed) (two_freed Overlap plan.rows k new long below freed) in
+    let freed : new.state ≡ Free = ap (λ (r : Row). r.state) c.no_row.ensures.value in
     let ready = c.in-Some.is in
     record {
-      long = laws.long;
-      starts = laws_starts laws;
-      counts = laws_counts laws;
-      hops = laws-hops laws;
-      numbers = laws.numbers;
-      apart = laws.apart;
+      long = length-set plan.rows k new ∙ long;
+      numbers = λ two. plan.numbers (two_freed Namesakes plan.rows k new long below freed two);
+      apart = λ two. plan.apart (two_freed Overlap plan.rows k new long below freed two);
       waiting = λ unset. never_both ready unset;
     }
 
