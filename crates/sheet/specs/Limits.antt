@@ -14,7 +14,7 @@ from_to b v l m = record { bit = b; value = v; least = l; most = m }
 abbrev pub zero_at : ℕ → ℕ → Limited
 zero_at b v = from_to b v 0 0
 
--- a field outside its limits
+-- whether a field is outside its limits
 abbrev pub is_outside : Limited → Bool
 is_outside f = nat_lt f.value f.least || nat_lt f.most f.value
 

@@ -31,7 +31,7 @@ impl From<GateState> for u8 {
     }
 }
 
-// An octet that is none of a state.
+// An octet that no state has.
 #[derive(Clone, Copy, PartialEq, Eq, Debug)]
 pub struct UnknownState(pub u8);
 
