@@ -1,6 +1,6 @@
 -- The flows that rows hold, by row: which numbers are held, how many rows are free, and one row that changes.
 -- Assumes nothing.
-use Rattle.std.proofs.Common.{◌≡◌, ℕ, zero, suc, ◌<◌, ◌≤◌, Bool, true, false, ◌||◌, eqb, leb, List, [], ◌∷◌, length, get_or, set, Some, None, Option, sym, refl, ap, ◌∙◌, subst, arith, eq-eqb}
+use Rattle.std.proofs.Common.{◌≡◌, ℕ, zero, suc, ◌<◌, ◌≤◌, Bool, true, false, ◌||◌, eqb, leb, List, [], ◌∷◌, length, get_or, set, Some, None, Option, MatchOption, is_some, sym, refl, ap, ◌∙◌, subst, arith, eq-eqb}
 use Rattle.std.proofs.lemmas.Bool.{eqb-true, lt-leb}
 use Rattle.network.specs.Flows.{At, here, next, Flow}
 use Rattle.network.proofs.Lists.{At-empty}
@@ -107,6 +107,13 @@ held-some n (r ∷ rows) (suc k) below holds = go r.state (held-some n rows k (o
     go : (state : State) → held n (flows rows) ≡ true → held n (more state r (flows rows)) ≡ true
     go Free e = e
     go Held e = ap (λ (b : Bool). eqb r.number n || b) e ∙ or_true (eqb r.number n)
+
+-- a number is held where a row that holds it is found
+pub held-is_some : (n : ℕ) (rows : List Row) (o : Option ℕ) →
+    MatchOption o (held n (flows rows) ≡ false) (λ k. (k < length rows) × Holds n (get_or rows k none) × ((j : ℕ) → j < k → Holds n (get_or rows j none) → ⊥)) →
+    held n (flows rows) ≡ is_some o
+held-is_some n rows None missing = missing
+held-is_some n rows (Some k) found = held-some n rows k found.0 found.1
 
 -- the flow of a row that holds one is one of the flows
 pub flows-at : (rows : List Row) (k : ℕ) → k < length rows → (get_or rows k none).state ≡ Held → (j : ℕ) × At (flows rows) j (flow (get_or rows k none))

@@ -1,11 +1,12 @@
 -- The first misrouted and the first overlong hop, step by step.
 -- Assumes nothing.
-use Rattle.std.proofs.Common.{◌≡◌, ℕ, suc, ◌+◌, ◌<◌, ◌≤◌, Bool, true, false, ◌||◌, eqb, ltb, leb, List, [], ◌∷◌, map, reverse, length, get_or, take, drop, Some, None, sym, refl, ap, ◌∙◌, subst, add-one, arith, length-take}
+use Rattle.std.proofs.Common.{◌≡◌, ℕ, suc, ◌+◌, ◌<◌, ◌≤◌, Bool, true, false, cond, ◌||◌, eqb, ltb, leb, List, [], ◌∷◌, map, position, reverse, length, get_or, take, drop, Some, None, sym, refl, ap, ◌∙◌, subst, add-one, arith, length-take}
 use mathlib.Core.List.{reverse_aux}
 use lib.ListN.{length-map}
-use Rattle.std.specs.List.{IsAnyAnswer}
+use Rattle.std.specs.List.{IsAnyAnswer, position_from}
 use Rattle.std.proofs.lemmas.List.{map-id, reverse-append, take_all, take_more, at_drop_more, get_or-map, get_or-take}
-use Rattle.std.proofs.lemmas.Bool.{le-leb, lt-leb, lt-ltb, le-ltb, or_from, or_left, or_right}
+use Rattle.std.proofs.lemmas.Iterator.Adapters.{position_from-zero}
+use Rattle.std.proofs.lemmas.Bool.{le-leb, lt-leb, or_from, or_left, or_right}
 use Rattle.network.specs.Flows as network
 use Rattle.network.proofs.Lists.{At-get_or}
 use Rattle.planning.specs.Lists.{any}
@@ -15,22 +16,18 @@ use Rattle.plan.specs.declared.row.Hop.{Hop}
 use Rattle.plan.specs.Rows.{hop, blank}
 use Rattle.plan.proofs.Any.{any_true, any_false}
 
--- what the search for an overlong hop does at hop k
-overlong-at : (T : ℕ) (hops : List Hop) (k : ℕ) (over : Bool) → k < length hops → ltb T (get_or hops k blank).wire ≡ over →
-    overlong T k (map hop (drop k hops)) ≡ elim over [ true ↦ Some k | false ↦ overlong T (k + 1) (map hop (drop (k + 1) hops)) ]
-overlong-at T hops k over within test =
-    at_drop_more (λ (hs : List Hop). overlong T k (map hop hs)) hops k blank within
-    ∙ ap (λ (b : Bool). elim b [ true ↦ Some k | false ↦ overlong T (suc k) (map hop (drop (k + 1) hops)) ]) test
-    ∙ ap (λ (n : ℕ). elim over [ true ↦ Some k | false ↦ overlong T n (map hop (drop (k + 1) hops)) ]) (sym (add-one k))
-
--- a wire time above the period
-pub overlong-here : (T : ℕ) (hops : List Hop) (k : ℕ) → k < length hops → T < (get_or hops k blank).wire → overlong T k (map hop (drop k hops)) ≡ Some k
-overlong-here T hops k within long = overlong-at T hops k true within (lt-ltb T _ long)
-
--- a wire time that is not
-pub overlong_more : (T : ℕ) (hops : List Hop) (k : ℕ) → k < length hops → (get_or hops k blank).wire ≤ T →
-    overlong T k (map hop (drop k hops)) ≡ overlong T (k + 1) (map hop (drop (k + 1) hops))
-overlong_more T hops k within short = overlong-at T hops k false within (le-ltb T _ short)
+-- the first overlong hop is the first whose wire time is above the period
+pub overlong-position : (T : ℕ) (hops : List Hop) → overlong T 0 (map hop hops) ≡ position (λ h. ltb T h.wire) hops
+overlong-position T hops = go 0 hops ∙ sym (position_from-zero (λ (h : Hop). ltb T h.wire) hops)
+  where
+    go : (k : ℕ) (hs : List Hop) → overlong T k (map hop hs) ≡ position_from (λ h. ltb T h.wire) k hs
+    go k [] = refl
+    go k (h ∷ hs) =
+        let rest = go (suc k) hs ∙ ap (λ (n : ℕ). position_from (λ h. ltb T h.wire) n hs) (sym (add-one k)) in
+        elim (ltb T h.wire) as (λ over. elim over [ true ↦ Some k | false ↦ overlong T (suc k) (map hop hs) ] ≡ cond over (Some k) (position_from (λ h. ltb T h.wire) (k + 1) hs)) [
+          | true ↦ refl
+          | false ↦ rest
+        ]
 
 -- a test over a list the other way round
 any-reverse : {A : Type 0} (p : A → Bool) (xs : List A) → any p (reverse xs) ≡ any p xs

@@ -17,18 +17,12 @@ impl<L: Line> Plan<L> {
         ensures buffer { buffer.new ≡ written (wires L.most (L.meaning self.old.line)) (model self.old.setup self.old.rows) buffer.old call.entry }
     {
         match call {
-            Call::SetUp { cycle, ports } => {
-                self.set_up(cycle, ports)?;
-                Ok(Reply::Done)
-            }
-            Call::Offer { flows, index } => Ok(Reply::Start(self.offer(flows, index)?)),
-            Call::Withdraw { number } => {
-                self.withdraw(number)?;
-                Ok(Reply::Done)
-            }
-            Call::StartOf { number } => Ok(Reply::Start(self.start_of(number)?)),
-            Call::Flowspan => Ok(Reply::Span(self.flowspan()?)),
-            Call::GateList { port } => Ok(Reply::Records(self.gate_list(port, buffer)?)),
+            Call::SetUp { cycle, ports } => self.set_up(cycle, ports).map(|()| Reply::Done),
+            Call::Offer { flows, index } => self.offer(flows, index).map(Reply::Start),
+            Call::Withdraw { number } => self.withdraw(number).map(|()| Reply::Done),
+            Call::StartOf { number } => self.start_of(number).map(Reply::Start),
+            Call::Flowspan => self.flowspan().map(Reply::Span),
+            Call::GateList { port } => self.gate_list(port, buffer).map(Reply::Records),
         }
     }
 }

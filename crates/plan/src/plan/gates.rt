@@ -15,9 +15,7 @@ impl<L: Line> Plan<L> {
         ensures same { self.exit.now ≡ self.entry.now }
         ensures after { buffer.new ≡ list_written (wires L.most (L.meaning self.now.line)) (model self.now.setup self.now.rows) buffer.old port }
     {
-        let Some(setup) = self.setup else {
-            return Err(PlanFault::NotSetUp);
-        };
+        let setup = self.set_up_with()?;
         if port >= self.line.ports() {
             return Err(PlanFault::NoPort);
         }

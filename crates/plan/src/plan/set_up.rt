@@ -22,17 +22,17 @@ impl<L: Line> Plan<L> {
         ensures rows { self.new.rows ≡ self.old.rows }
         ensures after { elim (set_up_answer (wires L.most (L.meaning self.old.line)) (model self.old.setup self.old.rows) cycle ports.now) [ Ok c ↦ stored self.new.setup ≡ Some c | Err _ ↦ self.new.setup ≡ self.old.setup ] }
     {
-        let figures = read_ports(ports, L::longest())?;
-        if let Some(_) = self.setup {
+        let figures = read_ports(ports)?;
+        if self.setup.is_some() {
             return Err(PlanFault::SetUpTwice);
         }
-        if cycle < LEAST_CYCLE || cycle > GREATEST_CYCLE {
+        if !(LEAST_CYCLE..=GREATEST_CYCLE).contains(&cycle) {
             return Err(PlanFault::Cycle);
         }
         if figures.count != usize::from(self.line.ports()) {
             return Err(PlanFault::PortCount);
         }
-        if figures.above {
+        if figures.longest > L::longest() {
             return Err(PlanFault::BestEffort);
         }
         let ports = figures.ports;

@@ -17,12 +17,8 @@ impl<L: Line> Plan<L> {
         ensures setup { self.new.setup ≡ self.old.setup }
         ensures after { elim result [ Ok _ ↦ flows self.new.rows ≡ left number (flows self.old.rows) | Err _ ↦ self.new.rows ≡ self.old.rows ] }
     {
-        let Some(_) = self.setup else {
-            return Err(PlanFault::NotSetUp);
-        };
-        let Some(k) = find(&self.rows, number) else {
-            return Err(PlanFault::NotHeld);
-        };
+        self.set_up_with()?;
+        let k = find(&self.rows, number).ok_or(PlanFault::NotHeld)?;
         self.rows[k] = no_row();
         Ok(())
     }

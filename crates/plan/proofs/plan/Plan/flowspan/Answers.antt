@@ -1,9 +1,5 @@
--- Every row keeps what leaves room for the sums, and the rows' flowspan is the answer.
-use Rattle.std.proofs.Common.{Ok, sym, refl, ap, ◌∙◌, arith}
-use Rattle.plan.specs.Calls.{Wires}
-use Rattle.plan.specs.Models.{model, setup}
-use Rattle.plan.specs.Setups as stored
-use Rattle.plan.proofs.Asked.{flowspan-answered}
+-- Every row keeps what leaves room for the sums.
+use Rattle.std.proofs.Common.{arith}
 use Rattle.plan.proofs.Laws.{laws_of}
 use Rattle.plan.proofs.plan.Plan.flowspan.Goals as goal
 
@@ -13,14 +9,3 @@ flowspan-requires g c =
     let long = plan.long in
     let laws = laws_of plan.rows plan.long plan.starts plan.counts plan.hops plan.numbers plan.apart in
     record { kept = λ k within. laws.kept k (omega arith) }
-
-pub returns : goal.returns
-returns g c =
-    let plan = c.args.self.now in
-    let w : Wires = record { most = g.L.Line.most; meaning = g.L.Line.meaning plan.line } in
-    record {
-      value =
-          ap Ok (c.flowspan.ensures.value w.meaning)
-          ∙ sym (flowspan-answered w (model plan.setup plan.rows) (stored.setup c.in-Some.setup) (ap setup c.in-Some.is));
-      same = refl;
-    }

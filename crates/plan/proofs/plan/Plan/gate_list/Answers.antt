@@ -1,10 +1,6 @@
--- The guard band that is told is the network's, so the list is the defined one.
-use Rattle.std.proofs.Common.{ℕ, sym, refl, ap, ◌∙◌, arith}
-use Rattle.planning.specs.Setups as planning
-use Rattle.plan.specs.Models.{model, setup, wires}
-use Rattle.plan.specs.Setups as stored
+-- Every row keeps what the list needs, and the guard band has its bound.
+use Rattle.std.proofs.Common.{arith}
 use Rattle.plan.proofs.Laws.{laws_of}
-use Rattle.plan.proofs.Listing.{list-answered, list_put}
 use Rattle.plan.proofs.plan.Plan.gate_list.Goals as goal
 
 pub gate_list-requires : goal.gate_list-requires
@@ -14,22 +10,4 @@ gate_list-requires g c =
     let laws = laws_of plan.rows plan.long plan.starts plan.counts plan.hops plan.numbers plan.apart in
     let told = c.wire_time-guard.ensures.value in
     let short = g.met.L.Line.bounded plan.line c.args.port c.port-figures.result.best in
-    record { kept = λ k below. laws.kept k (omega arith); cycle = c.in-Some.setup.greatest; guard = omega arith }
-
-pub returns : goal.returns
-returns g c =
-    let plan = c.args.self.now in
-    let w = wires g.L.Line.most (g.L.Line.meaning plan.line) in
-    let m = model plan.setup plan.rows in
-    let q = c.args.port in
-    let config = stored.setup c.in-Some.setup in
-    let ready = ap setup c.in-Some.is in
-    let told = c.ports.ensures.value in
-    let best = ap (λ (p : planning.Port). p.best) c.port-figures.ensures.value in
-    let band = c.wire_time-guard.ensures.value ∙ ap (λ (l : ℕ). w.meaning.time q l) best in
-    let value = c.gate_list.ensures.value in
-    record {
-      value = value ∙ sym (list-answered w m config q c.wire_time-guard.result ready (omega arith) band _);
-      same = refl;
-      after = c.gate_list.ensures.after ∙ list_put w m config q c.wire_time-guard.result ready (omega arith) band _ _ value;
-    }
+    record { kept = λ k below. laws.kept k (omega arith); cycle = c.in_ok-setup.setup.now.greatest; guard = omega arith }
