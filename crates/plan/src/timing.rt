@@ -17,8 +17,8 @@ pub(crate) struct Timing {
     pub total: u32,
 }
 
-// The first hop whose wire time exceeds a period.
-fn first_above(hops: &[Hop], period: u32) -> Option<usize>
+// The index of the first hop whose wire time exceeds a period.
+fn overlong_at(hops: &[Hop], period: u32) -> Option<usize>
     ensures value { result ≡ position (λ hop. nat_lt period hop.wire) hops.now }
 {
     hops.iter().position(|hop| hop.wire > period)
@@ -30,7 +30,7 @@ impl Timing {
         ensures value { result ≡ first_overlong offer.now.flow.period 0 (map hop (take (length (offered offer.now.flow).route) self.now.hops)) }
     {
         let route = offer.flow.route();
-        let k = first_above(&self.hops[..route.len()], offer.flow.period)?;
+        let k = overlong_at(&self.hops[..route.len()], offer.flow.period)?;
         Some(k as u8)
     }
 }
@@ -43,6 +43,7 @@ impl<L: Line> Network<'_, L> {
         let mut hops = [Hop::default(); 8];
         let mut offset = 0;
         let mut total = 0;
+        // By the index of a hop: an invariant cannot speak of what the items of `iter_mut` leave.
         for (k, port) in offer.flow.route().iter().enumerate() {
             let wire = self.line.wire_time(*port, offer.flow.length);
             let figures = self.setup.port(*port);

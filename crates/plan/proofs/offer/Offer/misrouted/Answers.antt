@@ -1,31 +1,27 @@
--- A port that is absent or stands earlier is the first, and past one that does neither the search goes on.
-use Rattle.std.proofs.Common.{[], reverse, take, sym, ap, ◌∙◌}
-use Rattle.std.proofs.lemmas.List.{at_drop_all}
-use Rattle.planning.specs.Offers.{misrouted}
-use Rattle.plan.proofs.Routes.{misrouted_absent, misrouted_twice, misrouted_more}
+-- The first hop that the test finds is the first misrouted one.
+use Rattle.std.proofs.Common.{length, sym, ap, ◌∙◌, ℕ, List, arith}
+use Rattle.std.specs.List.{enumerate_from}
+use Rattle.std.proofs.lemmas.List.FromFn.{length-enumerate_from}
+use Rattle.std.proofs.lemmas.List.Quantifiers.{position-Some}
+use Rattle.plan.proofs.Records.{route_few}
+use Rattle.plan.proofs.Routes.{bad_hop, misrouted-position}
 use Rattle.plan.proofs.offer.Offer.misrouted.Goals as goal
-use Rattle.plan.proofs.offer.Offer.misrouted.Goals.{then-port-ports-via-then-port-ports, then-port-ports-via-else-port-ports+then-contains}
 
-pub returns-then-port-ports : goal.returns-then-port-ports
-returns-then-port-ports c =
-    let N = c.args.ports in
-    let route = c.route-route.result.now in
-    let k = c.loop-k.k in
-    let within = c.loop-k-test.true in
-    let first = ap (misrouted N [] 0) (sym c.route-route.ensures.value) ∙ c.loop-k.invariant in
-    elim c.then-port-ports.branch [
-      | then-port-ports-via-then-port-ports w ↦ record { value = sym (first ∙ misrouted_absent N route k within w.if-port-ports.true) }
-      | then-port-ports-via-else-port-ports+then-contains w ↦ record { value = sym (first ∙ misrouted_twice N route k _ within w.if-contains.true w.contains.ensures.cases) }
-    ]
+pub returns-in_err-k : goal.returns-in_err-k
+returns-in_err-k c =
+    rw (← c.route.ensures.value)
+    (record { value = c.from_residual.ensures ∙ c.in_err-k.ensures.value ∙ sym (misrouted-position c.args.ports c.route.result.now) })
 
-pub loop-k-preserved : goal.loop-k-preserved
-loop-k-preserved c =
-    c.loop-k.invariant
-    ∙ misrouted_more c.args.ports c.route-route.result.now c.loop-k.k _ c.loop-k-test.true c.if-port-ports.false c.if-contains.false c.contains.ensures.cases
+pub overflow_cast-result : goal.overflow_cast-result
+overflow_cast-result c =
+    let route = c.route.result.now in
+    let few = route_few c.args.self.now.limited in
+    let same = ap (λ (qs : List ℕ). length qs) c.route.ensures.value in
+    let long = length-enumerate_from 0 route in
+    let within = (position-Some (bad_hop c.args.ports route) (enumerate_from 0 route) c.in_ok-k.k (0, 0) (sym c.in_ok-k.ensures.value)).0 in
+    omega arith
 
 pub returns : goal.returns
 returns c =
-    let N = c.args.ports in
-    let route = c.route-route.result.now in
-    let k = c.loop-k.k in
-    record { value = sym (ap (misrouted N [] 0) (sym c.route-route.ensures.value) ∙ c.loop-k.invariant ∙ at_drop_all (misrouted N (reverse (take k route)) k) route k c.loop-k-test.false) }
+    rw (← c.route.ensures.value)
+    (record { value = c.in_ok-k.ensures.value ∙ sym (misrouted-position c.args.ports c.route.result.now) })
