@@ -17,7 +17,7 @@ use sheet::Start;
 impl<L: Line> Network<'_, L> {
     // The row of an offer with start 0, or the first refusal that concerns its figures.
     pub(crate) fn row(&self, offer: &Offer) -> Result<Row, PlanFault>
-        ensures made { elim result [ Ok row ↦ Made L.most (network (L.meaning self.now.line.now) self.now.setup.now) (offered offer.now.flow) row | Err e ↦ unfit (network (L.meaning self.now.line.now) self.now.setup.now) L.most (offered offer.now.flow) ≡ Some e ] }
+        ensures made { let net = network (L.meaning self.now.line.now) self.now.setup.now in elim result [ Ok row ↦ Made L.most net (offered offer.now.flow) row | Err e ↦ unfit net L.most (offered offer.now.flow) ≡ Some e ] }
     {
         let timing = self.judge(offer)?;
         let flow = &offer.flow;
