@@ -2,7 +2,7 @@
 ghost use Rattle.std.specs.Prelude.{◌≡◌, Some, None, Ok, Err};
 ghost use Rattle.fault.specs.declared.kinds.PlanFault.TheVariants.{NotSetUp};
 ghost use Rattle.plan.specs.Calls.{start_answer, flowspan_answer};
-ghost use Rattle.plan.specs.Models.{model, wires};
+ghost use Rattle.plan.specs.Views.{held_by, wires_of};
 
 use crate::flowspan::flowspan;
 use crate::plan::Plan;
@@ -21,7 +21,7 @@ impl<L: Line> Plan<L> {
 
     // The start of the flow of a number.
     pub fn start_of(&self, number: u16) -> Result<u32, PlanFault>
-        ensures value { result ≡ start_answer (model self.now.setup self.now.rows) number }
+        ensures value { result ≡ start_answer (held_by self.now) number }
         ensures same { self.exit.now ≡ self.entry.now }
     {
         self.set_up_with()?;
@@ -31,7 +31,7 @@ impl<L: Line> Plan<L> {
 
     // The greatest start + total time among the held flows, or 0.
     pub fn flowspan(&self) -> Result<u32, PlanFault>
-        ensures value { result ≡ flowspan_answer (wires L.most (L.meaning self.now.line)) (model self.now.setup self.now.rows) }
+        ensures value { result ≡ flowspan_answer (wires_of self.now) (held_by self.now) }
         ensures same { self.exit.now ≡ self.entry.now }
     {
         Ok(flowspan(&self.rows, self.set_up_with()?))

@@ -3,11 +3,11 @@ ghost use Rattle.std.specs.Prelude.{◌≡◌, Ok, Err};
 ghost use Rattle.planning.specs.Lists.{Same};
 ghost use Rattle.planning.specs.Offers.{answer};
 ghost use Rattle.plan.specs.Calls.{offer_answer, offered};
-ghost use Rattle.plan.specs.Models.{model, wires};
 ghost use Rattle.plan.specs.Offers.{Placed};
 ghost use Rattle.plan.specs.Rows.{flows as held};
 ghost use Rattle.plan.specs.Steps.{added};
 ghost use Rattle.plan.specs.Timings.{network};
+ghost use Rattle.plan.specs.Views.{held_by, wires_of};
 
 use crate::judge::Network;
 use crate::offer::Offer;
@@ -42,10 +42,10 @@ impl<L: Line> Plan<L> {
 
     // Adds the flow of a record of a sheet, and answers its start: the chosen one, or the earliest.
     pub fn offer(&mut self, flows: &[u8], index: usize) -> Result<u32, PlanFault>
-        ensures value { result ≡ offer_answer (wires L.most (L.meaning self.old.line)) (model self.old.setup self.old.rows) flows.now index }
+        ensures value { result ≡ offer_answer (wires_of self.old) (held_by self.old) flows.now index }
         ensures line { self.new.line ≡ self.old.line }
         ensures setup { self.new.setup ≡ self.old.setup }
-        ensures after { elim result [ Ok s ↦ Same (held self.new.rows) (added (wires L.most (L.meaning self.old.line)) (model self.old.setup self.old.rows) flows.now index s) | Err _ ↦ self.new.rows ≡ self.old.rows ] }
+        ensures after { elim result [ Ok s ↦ Same (held self.new.rows) (added (wires_of self.old) (held_by self.old) flows.now index s) | Err _ ↦ self.new.rows ≡ self.old.rows ] }
     {
         let offer = Offer {
             flow: Reader::new(flows, index).read()?,
