@@ -1,10 +1,10 @@
 -- The answer to a set-up, from the figures of its sheet.
 -- Assumes nothing.
-use Rattle.std.proofs.Common.{◌≡◌, ℕ, ◌<◌, ◌≤◌, true, false, cond, not, ◌||◌, eqb, ltb, ◌⊎◌, List, map, length, take, Some, None, Ok, Err, Option, Result, sym, ap, ◌∙◌, inl, inr, arith}
+use Rattle.std.proofs.Common.{◌≡◌, ℕ, ◌<◌, ◌≤◌, cond, not, ◌||◌, eqb, ltb, true, List, map, length, take, None, Ok, Err, Option, Result, sym, ap, ◌∙◌, arith}
 use Rattle.std.proofs.lemmas.List.{take_all}
-use Rattle.std.proofs.lemmas.Bool.{lt-ltb, le-ltb, eq-eqb, ne_eqb, or_left, or_right, or_from, not_from_true, not_from_false, cond-true, cond-false}
+use Rattle.std.proofs.lemmas.Bool.{lt-ltb, le-ltb, eq-eqb, ne_eqb, or_from, not_from_true, not_from_false, cond-true, cond-false}
 use Rattle.fault.specs.declared.kinds.PlanFault.{PlanFault}
-use Rattle.fault.specs.declared.kinds.PlanFault.TheVariants.{Record, SetUpTwice, Cycle, PortCount, BestEffort}
+use Rattle.fault.specs.declared.kinds.PlanFault.TheVariants.{Record, Cycle, PortCount, BestEffort}
 use Rattle.fault.specs.declared.kinds.RecordFault.{RecordFault}
 use Rattle.sheet.specs.declared.port.PortRecord.{PortRecord}
 use Rattle.sheet.specs.Ports.{read_port}
@@ -25,34 +25,25 @@ abbrev by_count : Wires → ℕ → List PortRecord → Result Setup PlanFault
 by_count w C xs = cond (not (eqb (length xs) w.meaning.ports)) (Err PortCount) (by-best w C xs)
 
 -- from the fault of the sheet
-pub set_up_fault : (w : Wires) (m : Model) (C n : ℕ) (sheet : List ℕ) (e : PlanFault) → Reads n (read_sheet 8 read_port sheet) (Err e) → set_up_answer w m C sheet ≡ Err e
-set_up_fault w m C n sheet e reads = go (read_sheet 8 read_port sheet) reads
+pub set_up_fault : (w : Wires) (m : Model) (C : ℕ) (sheet : List ℕ) (e : PlanFault) → Reads (read_sheet 8 read_port sheet) (Err e) → set_up_answer w m C sheet ≡ Err e
+set_up_fault w m C sheet e reads = go (read_sheet 8 read_port sheet) reads
   where
-    go : (r : Result (List PortRecord) RecordFault) → Reads n r (Err e) → ◌≡◌ {A = Result Setup PlanFault} (elim r [ Err f ↦ Err (Record f) | Ok xs ↦ set_up w m.setup C xs ]) (Err e)
+    go : (r : Result (List PortRecord) RecordFault) → Reads r (Err e) → ◌≡◌ {A = Result Setup PlanFault} (elim r [ Err f ↦ Err (Record f) | Ok xs ↦ set_up w m.setup C xs ]) (Err e)
     go (Ok xs) none = absurd none
     go (Err f) is = let same : Record f ≡ e = cc in ap Err same
 
--- from the records of the sheet
-module _ (w : Wires) (m : Model) (C : ℕ) (sheet : List ℕ) {f : Figures} (read : Done w.most (read_sheet 8 read_port sheet) f) where
-  answer_read : set_up_answer w m C sheet ≡ set_up w m.setup C read.xs
-  answer_read = ap (λ (r : Result (List PortRecord) RecordFault). elim r [ Err e ↦ Err (Record e) | Ok xs ↦ set_up w m.setup C xs ]) read.is
-
-  pub set_up_twice : (c : Setup) → m.setup ≡ Some c → set_up_answer w m C sheet ≡ Err SetUpTwice
-  set_up_twice c is = answer_read ∙ ap (λ (o : Option Setup). set_up w o C read.xs) is
-
--- of a plan that is not set up
-module _ (w : Wires) (m : Model) (C : ℕ) (sheet : List ℕ) {f : Figures} (read : Done w.most (read_sheet 8 read_port sheet) f) (unset : m.setup ≡ None) where
+-- of a plan that is not set up, from the records of the sheet
+module _ (w : Wires) (m : Model) (C : ℕ) (sheet : List ℕ) {f : Figures} (read : Done (read_sheet 8 read_port sheet) f) (unset : m.setup ≡ None) where
   answer_unset : set_up_answer w m C sheet ≡ set_up w None C read.xs
-  answer_unset = answer_read w m C sheet read ∙ ap (λ (o : Option Setup). set_up w o C read.xs) unset
+  answer_unset =
+      ap (λ (r : Result (List PortRecord) RecordFault). elim r [ Err e ↦ Err (Record e) | Ok xs ↦ set_up w m.setup C xs ]) read.is
+      ∙ ap (λ (o : Option Setup). set_up w o C read.xs) unset
 
-  pub set_up-cycle : (C < 1000) ⊎ (1000000000 < C) → set_up_answer w m C sheet ≡ Err Cycle
-  set_up-cycle outside = answer_unset ∙ cond-true _ _ _ (elim outside [
-    | inl low ↦ or_left _ _ (lt-ltb C 1000 low)
-    | inr high ↦ or_right (ltb C 1000) _ (lt-ltb 1000000000 C high)
-  ])
+  pub set_up-cycle : (ltb C 1000 || ltb 1000000000 C) ≡ true → set_up_answer w m C sheet ≡ Err Cycle
+  set_up-cycle outside = answer_unset ∙ cond-true _ _ _ outside
 
 -- with a cycle within its limits
-module _ (w : Wires) (m : Model) (C : ℕ) (sheet : List ℕ) {f : Figures} (read : Done w.most (read_sheet 8 read_port sheet) f) (unset : m.setup ≡ None) (low : 1000 ≤ C) (high : C ≤ 1000000000) where
+module _ (w : Wires) (m : Model) (C : ℕ) (sheet : List ℕ) {f : Figures} (read : Done (read_sheet 8 read_port sheet) f) (unset : m.setup ≡ None) (low : 1000 ≤ C) (high : C ≤ 1000000000) where
   answer-cycle : set_up_answer w m C sheet ≡ by_count w C read.xs
   answer-cycle = answer_unset w m C sheet read unset ∙ cond-false (ltb C 1000 || ltb 1000000000 C) _ _ (or_from _ _ (le-ltb C 1000 low) (le-ltb 1000000000 C high))
 
@@ -64,12 +55,12 @@ module _ (w : Wires) (m : Model) (C : ℕ) (sheet : List ℕ) {f : Figures} (rea
   answer-count same =
       answer-cycle ∙ cond-false _ _ _ (not_from_true (eqb (length read.xs) w.meaning.ports) (eq-eqb (length read.xs) w.meaning.ports (sym read.figured.count ∙ same)))
 
-  pub set_up-best : f.count ≡ w.meaning.ports → f.above ≡ true → set_up_answer w m C sheet ≡ Err BestEffort
-  set_up-best same above = answer-count same ∙ cond-true _ _ _ (sym read.figured.above ∙ above)
+  pub set_up-best : f.count ≡ w.meaning.ports → w.most < f.longest → set_up_answer w m C sheet ≡ Err BestEffort
+  set_up-best same above = answer-count same ∙ cond-true _ _ _ (sym (read.figured.longest w.most) ∙ lt-ltb w.most f.longest above)
 
-  pub set_up-done : f.count ≡ w.meaning.ports → w.meaning.ports ≤ 32 → f.above ≡ false →
+  pub set_up-done : f.count ≡ w.meaning.ports → w.meaning.ports ≤ 32 → f.longest ≤ w.most →
       set_up_answer w m C sheet ≡ Ok (record { cycle = C; ports = map stored.port (take f.count f.ports) })
-  set_up-done same few above =
+  set_up-done same few within =
       let count = read.figured.count in
       let ports = ap (λ (n : ℕ). map stored.port (take n f.ports)) count ∙ read.figured.ports ∙ ap (map port) (take_all 32 read.xs (omega arith)) in
-      answer-count same ∙ cond-false _ _ _ (sym read.figured.above ∙ above) ∙ ap (λ (ps : List Port). Ok (record { cycle = C; ports = ps })) (sym ports)
+      answer-count same ∙ cond-false _ _ _ (sym (read.figured.longest w.most) ∙ le-ltb w.most f.longest within) ∙ ap (λ (ps : List Port). Ok (record { cycle = C; ports = ps })) (sym ports)

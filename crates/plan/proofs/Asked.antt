@@ -3,9 +3,8 @@
 use Rattle.std.proofs.Common.{◌≡◌, ℕ, Some, None, Ok, Err, Option, Result, ap, ◌∙◌, arith}
 use Rattle.fault.specs.declared.kinds.PlanFault.{PlanFault}
 use Rattle.fault.specs.declared.kinds.PlanFault.TheVariants.{NotSetUp, NotHeld}
-use Rattle.planning.specs.Offers.{flowspan}
-use Rattle.planning.specs.Setups.{Setup, network}
-use Rattle.plan.specs.Calls.{Wires, Model, start_of, start_answer, flowspan_answer}
+use Rattle.planning.specs.Setups.{Setup}
+use Rattle.plan.specs.Calls.{Model, start_of, start_answer}
 
 -- what is set up is not left unset
 pub never_both : {A : Type 0} {o : Option A} {x : A} {P : Type 0} → o ≡ Some x → o ≡ None → P
@@ -19,6 +18,3 @@ found o = elim o [ None ↦ Err NotHeld | Some s ↦ Ok s ]
 pub start-answered : (m : Model) (c : Setup) (n : ℕ) (o : Option ℕ) → m.setup ≡ Some c → start_of n m.held ≡ o → start_answer m n ≡ found o
 start-answered m c n o ready is =
     ap (λ (s : Option Setup). elim s [ None ↦ Err NotSetUp | Some c ↦ found (start_of n m.held) ]) ready ∙ ap found is
-
-pub flowspan-answered : (w : Wires) (m : Model) (c : Setup) → m.setup ≡ Some c → flowspan_answer w m ≡ Ok (flowspan (network w.meaning c) m.held)
-flowspan-answered w m c ready = ap (λ (s : Option Setup). elim s [ None ↦ Err NotSetUp | Some c ↦ Ok (flowspan (network w.meaning c) m.held) ]) ready

@@ -8,7 +8,6 @@ pub mod Held
 pub mod InOrder
 pub mod Judging
 pub mod Left
-pub mod Listing
 pub mod Looking
 pub mod Moving
 pub mod Offering

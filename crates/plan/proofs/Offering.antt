@@ -3,7 +3,7 @@
 use Rattle.std.proofs.Common.{◌≡◌, ℕ, ◌<◌, Bool, true, false, cond, leb, List, ◌∷◌, length, Some, None, Ok, Err, Option, Result, refl, ap, ◌∙◌, subst, arith}
 use Rattle.std.proofs.lemmas.Bool.{leb-false}
 use Rattle.fault.specs.declared.kinds.PlanFault.{PlanFault}
-use Rattle.fault.specs.declared.kinds.PlanFault.TheVariants.{Record, NotSetUp, NumberHeld, Full, Start, Taken, NoStart}
+use Rattle.fault.specs.declared.kinds.PlanFault.TheVariants.{NumberHeld, Full, Start, Taken, NoStart}
 use Rattle.fault.specs.declared.kinds.RecordFault.{RecordFault}
 use Rattle.sheet.specs.declared.flow.FlowRecord.{FlowRecord}
 use Rattle.sheet.specs.Flows.{read_flow}
@@ -14,16 +14,11 @@ use Rattle.planning.specs.Offers.{Offered, held, unfit, placed, answer, flow}
 use Rattle.planning.specs.Overlaps.{fits, earliest}
 use Rattle.planning.specs.Setups.{Setup, network}
 use Rattle.planning.proofs.Lists.{Least, least-is}
-use Rattle.plan.specs.Calls.{Wires, Model, offered, offer_answer}
+use Rattle.plan.specs.Calls.{Wires, Model, offered}
 use Rattle.plan.specs.Steps.{added}
 
 -- an offer of a record that was read, of a plan that is set up
 module _ (w : Wires) (m : Model) (sheet : List ℕ) (k : ℕ) (x : FlowRecord) (c : Setup) (read : read_at 21 read_flow k sheet ≡ Ok x) (ready : m.setup ≡ Some c) where
-  pub offer_read : offer_answer w m sheet k ≡ answer (network w.meaning c) w.most m.held (offered x)
-  offer_read =
-      ap (λ (r : Result FlowRecord RecordFault). elim r [ Err e ↦ Err (Record e) | Ok y ↦ elim m.setup [ None ↦ Err NotSetUp | Some c ↦ answer (network w.meaning c) w.most m.held (offered y) ] ]) read
-      ∙ ap (λ (o : Option Setup). elim o [ None ↦ Err NotSetUp | Some c ↦ answer (network w.meaning c) w.most m.held (offered x) ]) ready
-
   pub added_read : (s : ℕ) → added w m sheet k s ≡ flow (network w.meaning c) (offered x) s ∷ m.held
   added_read s =
       ap (λ (o : Option Setup). elim o [ None ↦ m.held | Some c ↦ elim (read_at 21 read_flow k sheet) [ Err _ ↦ m.held | Ok y ↦ flow (network w.meaning c) (offered y) s ∷ m.held ] ]) ready

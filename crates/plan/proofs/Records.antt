@@ -1,6 +1,6 @@
 -- What the records that a plan accepts keep: a port's best-effort length, and a flow's length, period and route.
 -- Assumes nothing.
-use Rattle.std.proofs.Common.{◌≡◌, ℕ, zero, suc, ◌≤◌, List, [], ◌∷◌, Ok, Err, Result, refl, subst, arith, length-take}
+use Rattle.std.proofs.Common.{◌≡◌, ℕ, zero, suc, ◌≤◌, List, [], ◌∷◌, length, Ok, Err, Result, refl, subst, arith, length-take}
 use Rattle.std.specs.List.{AllByRecursion as All}
 use Rattle.fault.specs.declared.kinds.RecordFault.{RecordFault}
 use Rattle.fault.specs.declared.kinds.SheetFault.{SheetFault}
@@ -67,6 +67,10 @@ flow_limited k s x e =
       hops_most = omega arith;
       slots = refl;
     })
+
+-- the route of a record within its limits has at most 8 hops
+pub route_few : {x : FlowRecord} → Limited x → length (offered x).route ≤ 8
+route_few limited = let most = limited.hops_most in simp length-take (omega arith)
 
 -- so it keeps what every accepted one does
 pub flow-recorded : (k : ℕ) (s : List ℕ) (x : FlowRecord) → read_flow k s ≡ Ok x → Recorded (offered x)

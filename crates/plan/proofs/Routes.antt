@@ -1,11 +1,11 @@
 -- The first misrouted and the first overlong hop, step by step.
 -- Assumes nothing.
-use Rattle.std.proofs.Common.{◌≡◌, ℕ, suc, ◌+◌, ◌<◌, ◌≤◌, Bool, true, false, ◌||◌, eqb, ltb, leb, List, [], ◌∷◌, map, reverse, length, get_or, take, drop, Some, None, sym, refl, ap, ◌∙◌, subst, add-one, arith, length-take}
+use Rattle.std.proofs.Common.{◌≡◌, ℕ, zero, suc, ◌+◌, ◌<◌, ◌≤◌, Bool, true, false, cond, ◌||◌, eqb, ltb, leb, List, [], ◌∷◌, map, position, reverse, length, get_or, take, drop, Some, None, sym, refl, ap, ◌∙◌, subst, add-one, arith, length-take}
 use mathlib.Core.List.{reverse_aux}
 use lib.ListN.{length-map}
-use Rattle.std.specs.List.{IsAnyAnswer}
-use Rattle.std.proofs.lemmas.List.{map-id, reverse-append, take_more, at_drop_more, get_or-map, get_or-take}
-use Rattle.std.proofs.lemmas.Bool.{le-leb, lt-leb, lt-ltb, le-ltb, or_from, or_left, or_right}
+use Rattle.std.specs.List.{enumerate_from, list_any, position_from}
+use Rattle.std.proofs.lemmas.List.{reverse-append, take_more, at_drop_all, at_drop_more, get_or-map, get_or-take}
+use Rattle.std.proofs.lemmas.Iterator.Adapters.{position_from-zero}
 use Rattle.network.specs.Flows as network
 use Rattle.network.proofs.Lists.{At-get_or}
 use Rattle.planning.specs.Lists.{any}
@@ -13,24 +13,19 @@ use Rattle.planning.specs.Offers.{misrouted, overlong}
 use Rattle.planning.proofs.Routes.{misrouted-none, overlong-none}
 use Rattle.plan.specs.declared.row.Hop.{Hop}
 use Rattle.plan.specs.Rows.{hop, blank}
-use Rattle.plan.proofs.Any.{any_true, any_false}
 
--- what the search for an overlong hop does at hop k
-overlong-at : (T : ℕ) (hops : List Hop) (k : ℕ) (over : Bool) → k < length hops → ltb T (get_or hops k blank).wire ≡ over →
-    overlong T k (map hop (drop k hops)) ≡ elim over [ true ↦ Some k | false ↦ overlong T (k + 1) (map hop (drop (k + 1) hops)) ]
-overlong-at T hops k over within test =
-    at_drop_more (λ (hs : List Hop). overlong T k (map hop hs)) hops k blank within
-    ∙ ap (λ (b : Bool). elim b [ true ↦ Some k | false ↦ overlong T (suc k) (map hop (drop (k + 1) hops)) ]) test
-    ∙ ap (λ (n : ℕ). elim over [ true ↦ Some k | false ↦ overlong T n (map hop (drop (k + 1) hops)) ]) (sym (add-one k))
-
--- a wire time above the period
-pub overlong-here : (T : ℕ) (hops : List Hop) (k : ℕ) → k < length hops → T < (get_or hops k blank).wire → overlong T k (map hop (drop k hops)) ≡ Some k
-overlong-here T hops k within long = overlong-at T hops k true within (lt-ltb T _ long)
-
--- a wire time that is not
-pub overlong_more : (T : ℕ) (hops : List Hop) (k : ℕ) → k < length hops → (get_or hops k blank).wire ≤ T →
-    overlong T k (map hop (drop k hops)) ≡ overlong T (k + 1) (map hop (drop (k + 1) hops))
-overlong_more T hops k within short = overlong-at T hops k false within (le-ltb T _ short)
+-- the first overlong hop is the first whose wire time is above the period
+pub overlong-position : (T : ℕ) (hops : List Hop) → overlong T 0 (map hop hops) ≡ position (λ h. ltb T h.wire) hops
+overlong-position T hops = go 0 hops ∙ sym (position_from-zero (λ (h : Hop). ltb T h.wire) hops)
+  where
+    go : (k : ℕ) (hs : List Hop) → overlong T k (map hop hs) ≡ position_from (λ h. ltb T h.wire) k hs
+    go k [] = refl
+    go k (h ∷ hs) =
+        let rest = go (suc k) hs ∙ ap (λ (n : ℕ). position_from (λ h. ltb T h.wire) n hs) (sym (add-one k)) in
+        elim (ltb T h.wire) as (λ over. elim over [ true ↦ Some k | false ↦ overlong T (suc k) (map hop hs) ] ≡ cond over (Some k) (position_from (λ h. ltb T h.wire) (k + 1) hs)) [
+          | true ↦ refl
+          | false ↦ rest
+        ]
 
 -- a test over a list the other way round
 any-reverse : {A : Type 0} (p : A → Bool) (xs : List A) → any p (reverse xs) ≡ any p xs
@@ -50,13 +45,10 @@ any-reverse {A} p xs = onto xs [] ∙ or_false (any p xs)
     onto [] ys = refl
     onto (x ∷ xs) ys = onto xs (x ∷ ys) ∙ turn (p x) (any p xs) (any p ys)
 
--- whether a port stands among others
-any_stands : (ports : List ℕ) (q : ℕ) (stands : Bool) → IsAnyAnswer (λ r b. eqb r q ≡ b) ports stands → any (λ r. eqb r q) ports ≡ stands
-any_stands ports q stands cases = sym (ap (any (λ r. eqb r q)) (map-id ports)) ∙ go stands cases
-  where
-    go : (stands : Bool) → IsAnyAnswer (λ r b. eqb r q ≡ b) ports stands → any (λ r. eqb r q) (map (λ (r : ℕ). r) ports) ≡ stands
-    go true some = any_true (λ r. eqb r q) (λ r. r) 0 ports some.0 some.1 (some.2 0)
-    go false none = any_false (λ r. eqb r q) (λ r. r) 0 ports (λ j within. none j 0 (omega arith) within)
+-- the library's test of a list is the same
+any-list_any : {A : Type 0} (p : A → Bool) (xs : List A) → any p xs ≡ list_any p xs
+any-list_any p [] = refl
+any-list_any p (x ∷ xs) = ap (λ (b : Bool). p x || b) (any-list_any p xs)
 
 -- what the search for a misrouted hop does at hop k
 misrouted-at : (N : ℕ) (route : List ℕ) (k : ℕ) (bad : Bool) → k < length route → (leb N (get_or route k 0) || any (λ r. eqb r (get_or route k 0)) (take k route)) ≡ bad →
@@ -73,19 +65,27 @@ misrouted-at N route k bad within test =
     rest : List ℕ
     rest = drop (k + 1) route
 
--- a port that is not one of N
-pub misrouted_absent : (N : ℕ) (route : List ℕ) (k : ℕ) → k < length route → N ≤ get_or route k 0 → misrouted N (reverse (take k route)) k (drop k route) ≡ Some k
-misrouted_absent N route k within absent = misrouted-at N route k true within (or_left _ _ (le-leb N _ absent))
+-- the test of a hop and its port: the port is not one of N, or stands earlier in the route
+abbrev pub bad_hop : ℕ → List ℕ → ℕ × ℕ → Bool
+bad_hop N route p = leb N p.1 || list_any (λ r. eqb r p.1) (take p.0 route)
 
--- a port that stands earlier
-pub misrouted_twice : (N : ℕ) (route : List ℕ) (k : ℕ) (stands : Bool) → k < length route → stands ≡ true → IsAnyAnswer (λ r b. eqb r (get_or route k 0) ≡ b) (take k route) stands →
-    misrouted N (reverse (take k route)) k (drop k route) ≡ Some k
-misrouted_twice N route k stands within found cases = misrouted-at N route k true within (or_right _ _ (any_stands (take k route) _ _ cases ∙ found))
-
--- a port of N that does not
-pub misrouted_more : (N : ℕ) (route : List ℕ) (k : ℕ) (stands : Bool) → k < length route → get_or route k 0 < N → stands ≡ false → IsAnyAnswer (λ r b. eqb r (get_or route k 0) ≡ b) (take k route) stands →
-    misrouted N (reverse (take k route)) k (drop k route) ≡ misrouted N (reverse (take (k + 1) route)) (k + 1) (drop (k + 1) route)
-misrouted_more N route k stands within present missing cases = misrouted-at N route k false within (or_from _ _ (lt-leb N _ present) (any_stands (take k route) _ _ cases ∙ missing))
+-- the first misrouted hop is the first that the test finds
+pub misrouted-position : (N : ℕ) (route : List ℕ) → misrouted N [] 0 route ≡ position (bad_hop N route) (enumerate_from 0 route)
+misrouted-position N route = go (length route) 0 (omega arith) ∙ sym (position_from-zero (bad_hop N route) (enumerate_from 0 route))
+  where
+    go : (n k : ℕ) → k + n ≡ length route → misrouted N (reverse (take k route)) k (drop k route) ≡ position_from (bad_hop N route) k (enumerate_from k (drop k route))
+    go zero k all =
+        at_drop_all (misrouted N (reverse (take k route)) k) route k (omega arith)
+        ∙ sym (at_drop_all (λ (qs : List ℕ). position_from (bad_hop N route) k (enumerate_from k qs)) route k (omega arith))
+    go (suc n) k left =
+        let q : ℕ = get_or route k 0 in
+        let rest = go n (k + 1) (omega arith) in
+        misrouted-at N route k (bad_hop N route (k, q)) (omega arith) (ap (λ (b : Bool). leb N q || b) (any-list_any (λ r. eqb r q) (take k route)))
+        ∙ elim (bad_hop N route (k, q)) as (λ bad. elim bad [ true ↦ Some k | false ↦ misrouted N (reverse (take (k + 1) route)) (k + 1) (drop (k + 1) route) ] ≡ cond bad (Some k) (position_from (bad_hop N route) (k + 1) (enumerate_from (k + 1) (drop (k + 1) route)))) [
+          | true ↦ refl
+          | false ↦ rest
+        ]
+        ∙ sym (at_drop_more (λ (qs : List ℕ). position_from (bad_hop N route) k (enumerate_from k qs)) route k 0 (omega arith))
 
 -- if no wire time exceeds the period, each is at most the period
 pub wire-within : (T : ℕ) (hops : List Hop) (n j k : ℕ) → overlong T j (map hop (take n hops)) ≡ None → k < n → k < length hops → (get_or hops k blank).wire ≤ T

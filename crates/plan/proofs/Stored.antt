@@ -1,7 +1,9 @@
 -- The figures that are stored of port records, one record after another.
 -- Assumes nothing.
-use Rattle.std.proofs.Common.{◌≡◌, ℕ, zero, suc, ◌+◌, ◌<◌, ◌≤◌, Bool, true, false, ◌||◌, ltb, List, [], ◌∷◌, ◌++◌, map, length, get_or, take, set, replicate, sym, refl, ap, ◌∙◌, subst, arith}
+use Rattle.std.proofs.Common.{◌≡◌, ℕ, zero, suc, ◌+◌, ◌<◌, ◌≤◌, max, Bool, true, false, ◌||◌, ltb, List, [], ◌∷◌, ◌++◌, map, length, get_or, take, set, replicate, sym, refl, ap, ◌∙◌, subst, arith}
 use native.Mathlib.Decide.{ℕ_discrete}
+use Rattle.std.proofs.lemmas.Bool.{le-ltb}
+use Rattle.std.proofs.lemmas.Bool.Decides.{nat_tests}
 use Rattle.std.proofs.lemmas.List.{length-set, length_push, get_or-set_same, get_or-set_other, take_all, take-append-le, take_more_set, map_push}
 use Rattle.sheet.specs.declared.port.PortRecord.{PortRecord}
 use Rattle.planning.specs.Lists.{any}
@@ -10,10 +12,6 @@ use Rattle.plan.specs.declared.setup.Port.{Port}
 use Rattle.plan.specs.Calls.{port}
 use Rattle.plan.specs.Figures.{Figured}
 use Rattle.plan.specs.Ports as stored
-
--- the port that is stored of a record
-abbrev pub figure : PortRecord → Port
-figure x = record { delay = x.delay; processing = x.processing; best = x.best_effort }
 
 -- a delay and a processing delay within their limits
 abbrev Short : Port → Type 0
@@ -36,20 +34,29 @@ any_push p (y ∷ xs) x = ap (λ (b : Bool). p y || b) (any_push p xs x) ∙ go 
     go true = refl
     go false = refl
 
+-- above the greater of two numbers is above one of them
+ltb-max : (n a b : ℕ) → ltb n (max a b) ≡ (ltb n a || ltb n b)
+ltb-max n a b = grind (arith, nat_tests)
+
 -- of no record
-pub figured-none : (most : ℕ) → Figured most [] (record { count = 0; ports = replicate 32 stored.blank; above = false })
-figured-none most = record { count = refl; long = refl; ports = refl; above = refl; delays = blank_short 32 }
+pub figured-none : (p : Port) → p.delay ≡ 0 → p.processing ≡ 0 → p.best ≡ 0 → Figured [] (record { count = 0; ports = replicate 32 p; longest = 0 })
+figured-none p delay processing best =
+    let blank : p ≡ stored.blank = λ i. record { delay = delay i; processing = processing i; best = best i } in
+    rw blank (record { count = refl; long = refl; ports = refl; longest = λ most. le-ltb most 0 (omega arith); delays = blank_short 32 })
 
 -- of one record more
-module _ (most k : ℕ) (xs : List PortRecord) (x : PortRecord) (ports : List Port) (above : Bool) (figured : Figured most xs (record { count = k; ports = ports; above = above })) where
+module _ (k : ℕ) (xs : List PortRecord) (x : PortRecord) (ports : List Port) (longest : ℕ) (figured : Figured xs (record { count = k; ports = ports; longest = longest })) where
   count_more : k + 1 ≡ length (xs ++ x ∷ [])
   count_more = ap (λ (n : ℕ). n + 1) figured.count ∙ sym (length_push xs x)
 
-  above_more : (above || ltb most x.best_effort) ≡ any (λ y. ltb most y.best_effort) (xs ++ x ∷ [])
-  above_more = ap (λ (b : Bool). b || ltb most x.best_effort) figured.above ∙ sym (any_push (λ y. ltb most y.best_effort) xs x)
+  longest_more : (most : ℕ) → ltb most (max longest x.best_effort) ≡ any (λ y. ltb most y.best_effort) (xs ++ x ∷ [])
+  longest_more most =
+      ltb-max most longest x.best_effort
+      ∙ ap (λ (b : Bool). b || ltb most x.best_effort) (figured.longest most)
+      ∙ sym (any_push (λ y. ltb most y.best_effort) xs x)
 
   -- that has room
-  pub figured-stored : k < 32 → Short (figure x) → Figured most (xs ++ x ∷ []) (record { count = k + 1; ports = set ports k (figure x); above = above || ltb most x.best_effort })
+  pub figured-stored : k < 32 → Short (stored.stored x) → Figured (xs ++ x ∷ []) (record { count = k + 1; ports = set ports k (stored.stored x); longest = max longest x.best_effort })
   figured-stored room short =
       let count = figured.count in
       let long = figured.long in
@@ -59,23 +66,23 @@ module _ (most k : ℕ) (xs : List PortRecord) (x : PortRecord) (ports : List Po
       let front-more : length (xs ++ x ∷ []) ≤ 32 = omega arith in
       record {
         count = count_more;
-        long = length-set ports k (figure x) ∙ long;
+        long = length-set ports k (stored.stored x) ∙ long;
         ports =
-            ap (λ (n : ℕ). map stored.port (take n (set ports k (figure x)))) (sym count_more)
-            ∙ ap (map stored.port) (take_more_set ports k (figure x) within)
-            ∙ map_push stored.port (take k ports) (figure x)
+            ap (λ (n : ℕ). map stored.port (take n (set ports k (stored.stored x)))) (sym count_more)
+            ∙ ap (map stored.port) (take_more_set ports k (stored.stored x) within)
+            ∙ map_push stored.port (take k ports) (stored.stored x)
             ∙ ap (λ (ps : List planning.Port). ps ++ port x ∷ []) (ap (λ (n : ℕ). map stored.port (take n ports)) count ∙ figured.ports ∙ ap (map port) (take_all 32 xs front))
             ∙ sym (map_push port xs x)
             ∙ ap (map port) (sym (take_all 32 (xs ++ x ∷ []) front-more));
-        above = above_more;
+        longest = longest_more;
         delays = λ q. elim (ℕ_discrete q k) [
-          | yes same ↦ subst (λ (i : ℕ). Short (get_or (set ports k (figure x)) i stored.blank)) (sym same) (subst Short (sym (get_or-set_same ports k (figure x) stored.blank within)) short)
-          | no differ ↦ subst Short (sym (get_or-set_other ports k q (figure x) stored.blank differ)) (figured.delays q)
+          | yes same ↦ subst (λ (i : ℕ). Short (get_or (set ports k (stored.stored x)) i stored.blank)) (sym same) (subst Short (sym (get_or-set_same ports k (stored.stored x) stored.blank within)) short)
+          | no differ ↦ subst Short (sym (get_or-set_other ports k q (stored.stored x) stored.blank differ)) (figured.delays q)
         ];
       }
 
   -- that has none
-  pub figured_past : 32 ≤ k → Figured most (xs ++ x ∷ []) (record { count = k + 1; ports = ports; above = above || ltb most x.best_effort })
+  pub figured_past : 32 ≤ k → Figured (xs ++ x ∷ []) (record { count = k + 1; ports = ports; longest = max longest x.best_effort })
   figured_past full =
       let count = figured.count in
       let long = figured.long in
@@ -87,6 +94,6 @@ module _ (most k : ℕ) (xs : List PortRecord) (x : PortRecord) (ports : List Po
             ap (map stored.port) (take_all (length (xs ++ x ∷ [])) ports (omega arith) ∙ sym (take_all (length xs) ports (omega arith)))
             ∙ figured.ports
             ∙ ap (map port) (sym (take-append-le 32 xs (x ∷ []) (omega arith)));
-        above = above_more;
+        longest = longest_more;
         delays = figured.delays;
       }

@@ -10,17 +10,17 @@ use Rattle.plan.specs.declared.figures.Figures.{Figures}
 use Rattle.plan.specs.Calls.{port}
 use Rattle.plan.specs.Ports as stored
 
--- the figures of port records on a line whose largest frame is `most`: their number, the ports of the first 32,
--- whether some best-effort length is above the largest frame, and delays within their limits
-pub record Figured (most : ℕ) (xs : List PortRecord) (f : Figures) : Type 0 where
+-- the figures of port records: their number, the ports of the first 32, a greatest best-effort length, which is above a
+-- number where some length is, and delays within their limits
+pub record Figured (xs : List PortRecord) (f : Figures) : Type 0 where
   pub count : f.count ≡ length xs
   pub long : length f.ports ≡ 32
   pub ports : map stored.port (take (length xs) f.ports) ≡ map port (take 32 xs)
-  pub above : f.above ≡ any (λ x. nat_lt most x.best_effort) xs
+  pub longest : (most : ℕ) → nat_lt most f.longest ≡ any (λ x. nat_lt most x.best_effort) xs
   pub delays : (q : ℕ) → ((slice_index_or f.ports q stored.blank).delay ≤ 100000) × ((slice_index_or f.ports q stored.blank).processing ≤ 1000000)
 
 -- the figures where the records were read, and their fault where they were not
-abbrev pub Reads : ℕ → Result (List PortRecord) RecordFault → Result Figures PlanFault → Type 0
-Reads most (Ok xs) (Ok f) = Figured most xs f
-Reads most (Ok xs) (Err e) = ⊥
-Reads most (Err e) r = r ≡ Err (Record e)
+abbrev pub Reads : Result (List PortRecord) RecordFault → Result Figures PlanFault → Type 0
+Reads (Ok xs) (Ok f) = Figured xs f
+Reads (Ok xs) (Err e) = ⊥
+Reads (Err e) r = r ≡ Err (Record e)

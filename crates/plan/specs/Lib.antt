@@ -1,5 +1,6 @@
 pub mod Alike
 pub mod Calls
+pub mod Views
 pub mod Figures
 pub mod GateLists
 pub mod GateOctets

@@ -7,6 +7,7 @@ mod fit;
 mod flowspan;
 mod gates;
 mod judge;
+mod offer;
 mod placing;
 mod plan;
 mod promise;

@@ -1,37 +1,37 @@
 // The row of an offered flow, and its start beside the held ones.
 ghost use Rattle.std.specs.Prelude.{◌≡◌, Some, Ok, Err};
-ghost use Rattle.planning.specs.Offers.{placed, unfit, flow as offered_flow};
+ghost use Rattle.planning.specs.Offers.{placed, unfit};
 ghost use Rattle.plan.specs.Calls.{offered};
-ghost use Rattle.plan.specs.Offers.{Limited, Made};
+ghost use Rattle.plan.specs.Offers.{Made};
 ghost use Rattle.plan.specs.Rows.{flow as row_flow, flows};
 ghost use Rattle.plan.specs.Timings.{network};
 
 use crate::fit::{earliest, fits};
-use crate::judge::judge;
+use crate::judge::Network;
+use crate::offer::Offer;
 use crate::row::{Row, State};
-use crate::setup::Setup;
 use fault::PlanFault;
 use line::Line;
-use sheet::FlowRecord;
 
-// The row of a flow record with start 0, or the first refusal that concerns its figures.
-pub(crate) fn made<L: Line>(line: &L, setup: &Setup, flow: &FlowRecord) -> Result<Row, PlanFault>
-    requires limited { Limited flow.now }
-    ensures made { elim result [ Ok row ↦ Made L.most (network (L.meaning line.now) setup.now) (offered flow.now) row | Err e ↦ unfit (network (L.meaning line.now) setup.now) L.most (offered flow.now) ≡ Some e ] }
-{
-    let route = &flow.ports[0..flow.hops as usize];
-    let timing = judge(line, setup, flow.length, flow.period, flow.deadline, route)?;
-    let hops = timing.hops;
-    Ok(Row {
-        state: State::Held,
-        number: flow.number,
-        length: flow.length,
-        period: flow.period,
-        deadline: flow.deadline,
-        start: 0,
-        count: flow.hops,
-        hops,
-    })
+impl<L: Line> Network<'_, L> {
+    // The row of an offer with start 0, or the first refusal that concerns its figures.
+    pub(crate) fn row(&self, offer: &Offer) -> Result<Row, PlanFault>
+        ensures made { let net = network (L.meaning self.now.line.now) self.now.setup.now in elim result [ Ok row ↦ Made L.most net (offered offer.now.flow) row | Err e ↦ unfit net L.most (offered offer.now.flow) ≡ Some e ] }
+    {
+        let timing = self.judge(offer)?;
+        let flow = &offer.flow;
+        let hops = timing.hops;
+        Ok(Row {
+            state: State::Held,
+            number: flow.number,
+            length: flow.length,
+            period: flow.period,
+            deadline: flow.deadline,
+            start: 0,
+            count: flow.hops,
+            hops,
+        })
+    }
 }
 
 // The start of the flow of a row beside the held ones: the chosen one, or the earliest.

@@ -2,9 +2,10 @@
 ghost use Rattle.std.specs.Prelude.{◌≡◌, length, Ok, Err};
 ghost use Rattle.plan.specs.Alike.{Alike};
 ghost use Rattle.plan.specs.Calls.{empty};
-ghost use Rattle.plan.specs.Models.{model, wires};
+ghost use Rattle.plan.specs.Models.{wires};
 ghost use Rattle.plan.specs.Promise.{Assures, ListsFit};
 ghost use Rattle.plan.specs.Steps.{after, replies, buffered};
+ghost use Rattle.plan.specs.Views.{held_by};
 
 use crate::call::{Answer, Call};
 use crate::plan::Plan;
@@ -33,7 +34,7 @@ pub fn perform<L: Line>(
 ) -> Result<Performed<L>, NoMemory<L>>
     ensures answers { elim result [ Ok p ↦ p.answers.items ≡ replies (wires L.most (L.meaning line)) empty (length buffer.old) calls.now | Err _ ↦ Unit {0} ] }
     ensures line { elim result [ Ok p ↦ p.plan.line ≡ line | Err e ↦ e.line ≡ line ] }
-    ensures holds { elim result [ Ok p ↦ Alike (model p.plan.setup p.plan.rows) (after (wires L.most (L.meaning line)) empty calls.now) | Err _ ↦ Unit {0} ] }
+    ensures holds { elim result [ Ok p ↦ Alike (held_by p.plan) (after (wires L.most (L.meaning line)) empty calls.now) | Err _ ↦ Unit {0} ] }
     ensures buffer { elim result [ Ok _ ↦ buffer.new ≡ buffered (wires L.most (L.meaning line)) empty buffer.old calls.now | Err _ ↦ buffer.new ≡ buffer.old ] }
     ensures assured { Assures (wires L.most (L.meaning line)) (after (wires L.most (L.meaning line)) empty calls.now) }
     ensures lists { ListsFit (wires L.most (L.meaning line)) (after (wires L.most (L.meaning line)) empty calls.now) }

@@ -13,7 +13,7 @@ pub(crate) enum State {
 }
 
 // One hop of a route: its port, its offset from the start, and the wire time there.
-#[derive(Clone, Copy)]
+#[derive(Clone, Copy, Default)]
 pub(crate) struct Hop {
     pub port: u8,
     pub offset: u32,

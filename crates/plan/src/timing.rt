@@ -1,46 +1,14 @@
-// The checks of an offer that look at its route and its times.
-ghost use Rattle.std.specs.Prelude.{◌≡◌, ◌≤◌, [], map, length};
-ghost use Rattle.planning.specs.Offers.{regular as is_regular, misrouted as first_misrouted, overlong as first_overlong};
+// The times of an offer's route: each hop's offset and wire time, and the total time.
+ghost use Rattle.std.specs.Prelude.{◌≡◌, map, length, position, take, nat_lt};
+ghost use Rattle.planning.specs.Offers.{overlong as first_overlong};
+ghost use Rattle.plan.specs.Calls.{offered};
 ghost use Rattle.plan.specs.Rows.{hop};
-ghost use Rattle.plan.specs.Timings.{Times};
+ghost use Rattle.plan.specs.Timings.{network, Times};
 
+use crate::judge::Network;
+use crate::offer::Offer;
 use crate::row::Hop;
-use crate::setup::Setup;
 use line::Line;
-
-// Whether the period divides the cycle, which holds at most 16 periods.
-pub(crate) fn regular(cycle: u32, period: u32) -> bool
-    requires some { 1 ≤ period }
-    ensures value { result ≡ is_regular cycle period }
-{
-    cycle % period == 0 && cycle / period <= 16
-}
-
-// The first hop whose port is not one of the plan's, or stands earlier in the route.
-pub(crate) fn misrouted(ports: u8, route: &[u8]) -> Option<u8>
-    requires few { length route.now ≤ 8 }
-    ensures value { result ≡ first_misrouted ports [] 0 route.now }
-{
-    for (k, port) in route.iter().enumerate() {
-        if *port >= ports || route[..k].contains(port) {
-            return Some(k as u8);
-        }
-    }
-    None
-}
-
-// The first hop whose wire time exceeds the period.
-pub(crate) fn overlong(period: u32, hops: &[Hop]) -> Option<u8>
-    requires few { length hops.now ≤ 8 }
-    ensures value { result ≡ first_overlong period 0 (map hop hops.now) }
-{
-    for (k, hop) in hops.iter().enumerate() {
-        if hop.wire > period {
-            return Some(k as u8);
-        }
-    }
-    None
-}
 
 // The hops of a route, the first of them at the front, and its total time.
 #[derive(Clone, Copy)]
@@ -49,28 +17,44 @@ pub(crate) struct Timing {
     pub total: u32,
 }
 
-// The offsets and wire times on a route of frames of a length, and the total time.
-pub(crate) fn timed<L: Line>(line: &L, setup: &Setup, frame: u16, route: &[u8]) -> Timing
-    requires few { length route.now ≤ 8 }
-    ensures times { Times L.most (L.meaning line.now) setup.now frame route.now result }
+// The index of the first hop whose wire time exceeds a period.
+fn overlong_at(hops: &[Hop], period: u32) -> Option<usize>
+    ensures value { result ≡ position (λ hop. nat_lt period hop.wire) hops.now }
 {
-    let mut hops = [Hop {
-        port: 0,
-        offset: 0,
-        wire: 0,
-    }; 8];
-    let mut offset = 0;
-    let mut total = 0;
-    for (k, port) in route.iter().enumerate() {
-        let wire = line.wire_time(*port, frame);
-        let figures = setup.port(*port);
-        hops[k] = Hop {
-            port: *port,
-            offset,
-            wire,
-        };
-        total = offset + wire + figures.delay;
-        offset = total + figures.processing;
+    hops.iter().position(|hop| hop.wire > period)
+}
+
+impl Timing {
+    // The first hop of an offer's route whose wire time exceeds the period.
+    pub(crate) fn overlong(&self, offer: &Offer) -> Option<u8>
+        ensures value { result ≡ first_overlong offer.now.flow.period 0 (map hop (take (length (offered offer.now.flow).route) self.now.hops)) }
+    {
+        let route = offer.flow.route();
+        let k = overlong_at(&self.hops[..route.len()], offer.flow.period)?;
+        Some(k as u8)
     }
-    Timing { hops, total }
+}
+
+impl<L: Line> Network<'_, L> {
+    // The offsets and wire times on the route of an offer, and its total time.
+    pub(crate) fn timing(&self, offer: &Offer) -> Timing
+        ensures times { Times L.most (network (L.meaning self.now.line.now) self.now.setup.now) (offered offer.now.flow) result }
+    {
+        let mut hops = [Hop::default(); 8];
+        let mut offset = 0;
+        let mut total = 0;
+        // By the index of a hop: an invariant cannot speak of what the items of `iter_mut` leave.
+        for (k, port) in offer.flow.route().iter().enumerate() {
+            let wire = self.line.wire_time(*port, offer.flow.length);
+            let figures = self.setup.port(*port);
+            hops[k] = Hop {
+                port: *port,
+                offset,
+                wire,
+            };
+            total = offset + wire + figures.delay;
+            offset = total + figures.processing;
+        }
+        Timing { hops, total }
+    }
 }

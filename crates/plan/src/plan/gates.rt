@@ -1,7 +1,7 @@
 // The gate list of a port.
 ghost use Rattle.std.specs.Prelude.{◌≡◌, length};
-ghost use Rattle.plan.specs.Models.{model, wires};
 ghost use Rattle.plan.specs.Steps.{gates_answer, list_written};
+ghost use Rattle.plan.specs.Views.{held_by, wires_of};
 
 use crate::gates::PortGates;
 use crate::plan::Plan;
@@ -11,13 +11,11 @@ use line::Line;
 impl<L: Line> Plan<L> {
     // Writes the gate list of a port as records from the front of the buffer, and answers how many there are.
     pub fn gate_list(&self, port: u8, buffer: &mut [u8]) -> Result<usize, PlanFault>
-        ensures value { result ≡ gates_answer (wires L.most (L.meaning self.now.line)) (model self.now.setup self.now.rows) port (length buffer.old) }
+        ensures value { result ≡ gates_answer (wires_of self.now) (held_by self.now) port (length buffer.old) }
         ensures same { self.exit.now ≡ self.entry.now }
-        ensures after { buffer.new ≡ list_written (wires L.most (L.meaning self.now.line)) (model self.now.setup self.now.rows) buffer.old port }
+        ensures after { buffer.new ≡ list_written (wires_of self.now) (held_by self.now) buffer.old port }
     {
-        let Some(setup) = self.setup else {
-            return Err(PlanFault::NotSetUp);
-        };
+        let setup = self.set_up_with()?;
         if port >= self.line.ports() {
             return Err(PlanFault::NoPort);
         }

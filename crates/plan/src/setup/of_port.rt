@@ -8,19 +8,14 @@ use crate::setup::{Port, Setup};
 
 impl Setup {
     // The figures of a port, all 0 where the set-up has no such port.
-    pub(crate) fn port(&self, q: u8) -> Port
-        ensures value { figures result ≡ slice_index_or (set_up self.now).ports q no_port }
+    pub(crate) fn port(&self, port: u8) -> Port
+        ensures value { figures result ≡ slice_index_or (set_up self.now).ports port no_port }
         ensures delay { result.delay ≤ 100000 }
         ensures processing { result.processing ≤ 1000000 }
     {
-        if q < self.count {
-            self.ports[q as usize]
-        } else {
-            Port {
-                delay: 0,
-                processing: 0,
-                best: 0,
-            }
-        }
+        self.ports[..usize::from(self.count)]
+            .get(usize::from(port))
+            .copied()
+            .unwrap_or_default()
     }
 }

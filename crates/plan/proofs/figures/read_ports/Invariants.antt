@@ -5,4 +5,4 @@ use Rattle.plan.proofs.Sheets.{front}
 use Rattle.plan.proofs.figures.read_ports.Given as goal
 
 abbrev pub invariant-loop-k : goal.invariant-loop-k
-invariant-loop-k l = Reads l.largest (front l.sheet l.k) (Ok (record { count = l.k; ports = l.ports; above = l.above }))
+invariant-loop-k l = Reads (front l.sheet l.k) (Ok (record { count = l.k; ports = l.ports; longest = l.longest }))

@@ -1,117 +1,64 @@
 -- Each call answers and leaves what is defined for it.
-use Rattle.std.proofs.Common.{Ok, Err, refl, ap, ◌∙◌}
-use Rattle.std.proofs.lemmas.Result.{err_from_is_err_and}
+use Rattle.std.proofs.Common.{rules, ◌≡◌, refl, ap, ◌∙◌}
 use Rattle.plan.specs.declared.call.Reply.TheVariants.{Done, Start, Span, Records}
-use Rattle.plan.specs.Models.{model, setup, wires}
-use Rattle.plan.specs.Rows.{flows}
+use Rattle.plan.specs.Models.{wires}
 use Rattle.plan.specs.Steps.{told}
-use Rattle.plan.proofs.Called.{same_of, alike_of, told_forgot, set_up_called, offer_called, withdraw_called}
+use Rattle.plan.proofs.Called.{alike_of, told_forgot, set_up_called, offer_called, withdraw_called}
 use Rattle.plan.proofs.plan.Plan.call.Goals as goal
 
-pub returns-in_ok-set_up-in-SetUp : goal.returns-in_ok-set_up-in-SetUp
-returns-in_ok-set_up-in-SetUp g c =
+pub returns-in-SetUp-clause-value : goal.returns-in-SetUp-clause-value
+returns-in-SetUp-clause-value g c =
+    let mapped : c.map.result ≡ told (λ _. Done) c.set_up.result = search rules in
+    rw c.in-SetUp.is (mapped ∙ ap (told (λ _. Done)) c.set_up.ensures.value ∙ told_forgot _)
+
+pub returns-in-SetUp-clause-after : goal.returns-in-SetUp-clause-after
+returns-in-SetUp-clause-after g c =
     let plan = c.args.self.now in
-    let w = wires g.L.Line.most (g.L.Line.meaning plan.line) in
-    let does = c.in_ok-set_up-in-SetUp.ensures in
-    rw c.in-SetUp.is (record {
-      value = ap (told (λ _. Done)) does.value ∙ told_forgot _;
-      line = does.line;
-      after = set_up_called w plan.setup _ plan.rows _ c.in-SetUp.cycle c.in-SetUp.ports does.rows does.after;
-      buffer = refl;
-    })
+    let does = c.set_up.ensures in
+    rw c.in-SetUp.is (set_up_called (wires g.L.Line.most (g.L.Line.meaning plan.line)) plan.setup _ plan.rows _ c.in-SetUp.cycle c.in-SetUp.ports does.rows does.after)
 
-pub returns-in_err-set_up-in-SetUp : goal.returns-in_err-set_up-in-SetUp
-returns-in_err-set_up-in-SetUp g c =
+pub returns-in-Offer-clause-value : goal.returns-in-Offer-clause-value
+returns-in-Offer-clause-value g c =
+    let mapped : c.map-in-Offer.result ≡ told Start c.offer.result = search rules in
+    rw c.in-Offer.is (mapped ∙ ap (told Start) c.offer.ensures.value)
+
+pub returns-in-Offer-clause-after : goal.returns-in-Offer-clause-after
+returns-in-Offer-clause-after g c =
     let plan = c.args.self.now in
-    let w = wires g.L.Line.most (g.L.Line.meaning plan.line) in
-    let p = err_from_is_err_and c.from_residual.result c.from_residual.ensures.1 in
-    let does = c.in_err-set_up-in-SetUp.ensures in
-    rw (p.1, p.2, c.in-SetUp.is) (record {
-      value = ap (told (λ _. Done)) does.value ∙ told_forgot _;
-      line = does.line;
-      after = set_up_called w plan.setup _ plan.rows _ c.in-SetUp.cycle c.in-SetUp.ports does.rows does.after;
-      buffer = refl;
-    })
+    let does = c.offer.ensures in
+    rw c.in-Offer.is (offer_called (wires g.L.Line.most (g.L.Line.meaning plan.line)) plan.setup _ plan.rows c.offer.new.self.rows c.in-Offer.flows c.in-Offer.index _ does.value does.setup does.after)
 
-pub returns-in_ok-offer-in-Offer : goal.returns-in_ok-offer-in-Offer
-returns-in_ok-offer-in-Offer g c =
+pub returns-in-Withdraw-clause-value : goal.returns-in-Withdraw-clause-value
+returns-in-Withdraw-clause-value g c =
+    let mapped : c.map-in-Withdraw.result ≡ told (λ _. Done) c.withdraw.result = search rules in
+    rw c.in-Withdraw.is (mapped ∙ ap (told (λ _. Done)) c.withdraw.ensures.value)
+
+pub returns-in-Withdraw-clause-after : goal.returns-in-Withdraw-clause-after
+returns-in-Withdraw-clause-after g c =
     let plan = c.args.self.now in
-    let w = wires g.L.Line.most (g.L.Line.meaning plan.line) in
-    let does = c.in_ok-offer-in-Offer.ensures in
-    rw c.in-Offer.is (record {
-      value = ap (told Start) does.value;
-      line = does.line;
-      after = offer_called w (model plan.setup plan.rows) _ c.in-Offer.flows c.in-Offer.index (Ok c.in_ok-offer-in-Offer.field-0) does.value (ap setup does.setup) does.after;
-      buffer = refl;
-    })
+    let does = c.withdraw.ensures in
+    rw c.in-Withdraw.is (withdraw_called (wires g.L.Line.most (g.L.Line.meaning plan.line)) plan.setup _ plan.rows c.withdraw.new.self.rows c.in-Withdraw.number _ does.value does.setup does.after)
 
-pub returns-in_err-offer-in-Offer : goal.returns-in_err-offer-in-Offer
-returns-in_err-offer-in-Offer g c =
-    let plan = c.args.self.now in
-    let w = wires g.L.Line.most (g.L.Line.meaning plan.line) in
-    let p = err_from_is_err_and c.from_residual-in_err-offer-in-Offer.result c.from_residual-in_err-offer-in-Offer.ensures.1 in
-    let does = c.in_err-offer-in-Offer.ensures in
-    rw (p.1, p.2, c.in-Offer.is) (record {
-      value = ap (told Start) does.value;
-      line = does.line;
-      after = offer_called w (model plan.setup plan.rows) _ c.in-Offer.flows c.in-Offer.index (Err c.in_err-offer-in-Offer.field-0.0) does.value (ap setup does.setup) (same_of (ap flows does.after));
-      buffer = refl;
-    })
+pub returns-in-StartOf-clause-value : goal.returns-in-StartOf-clause-value
+returns-in-StartOf-clause-value g c =
+    let mapped : c.map-in-StartOf.result ≡ told Start c.start_of.result = search rules in
+    rw c.in-StartOf.is (mapped ∙ ap (told Start) c.start_of.ensures.value)
 
-pub returns-in_ok-withdraw-in-Withdraw : goal.returns-in_ok-withdraw-in-Withdraw
-returns-in_ok-withdraw-in-Withdraw g c =
-    let plan = c.args.self.now in
-    let w = wires g.L.Line.most (g.L.Line.meaning plan.line) in
-    let does = c.in_ok-withdraw-in-Withdraw.ensures in
-    rw c.in-Withdraw.is (record {
-      value = ap (told (λ _. Done)) does.value;
-      line = does.line;
-      after = withdraw_called w (model plan.setup plan.rows) _ c.in-Withdraw.number (Ok tt) does.value (ap setup does.setup) does.after;
-      buffer = refl;
-    })
+pub returns-in-StartOf-clause-after : goal.returns-in-StartOf-clause-after
+returns-in-StartOf-clause-after g c = rw c.in-StartOf.is (alike_of refl)
 
-pub returns-in_err-withdraw-in-Withdraw : goal.returns-in_err-withdraw-in-Withdraw
-returns-in_err-withdraw-in-Withdraw g c =
-    let plan = c.args.self.now in
-    let w = wires g.L.Line.most (g.L.Line.meaning plan.line) in
-    let p = err_from_is_err_and c.from_residual-in_err-withdraw-in-Withdraw.result c.from_residual-in_err-withdraw-in-Withdraw.ensures.1 in
-    let does = c.in_err-withdraw-in-Withdraw.ensures in
-    rw (p.1, p.2, c.in-Withdraw.is) (record {
-      value = ap (told (λ _. Done)) does.value;
-      line = does.line;
-      after = withdraw_called w (model plan.setup plan.rows) _ c.in-Withdraw.number (Err c.in_err-withdraw-in-Withdraw.field-0.0) does.value (ap setup does.setup) (ap flows does.after);
-      buffer = refl;
-    })
+pub returns-in-Flowspan-clause-value : goal.returns-in-Flowspan-clause-value
+returns-in-Flowspan-clause-value g c =
+    let mapped : c.map-in-Flowspan.result ≡ told Span c.flowspan.result = search rules in
+    rw c.in-Flowspan.is (mapped ∙ ap (told Span) c.flowspan.ensures.value)
 
-pub returns-in_ok-start_of-in-StartOf : goal.returns-in_ok-start_of-in-StartOf
-returns-in_ok-start_of-in-StartOf g c =
-    let does = c.in_ok-start_of-in-StartOf.ensures in
-    rw c.in-StartOf.is (record { value = ap (told Start) does.value; line = refl; after = alike_of refl; buffer = refl })
+pub returns-in-Flowspan-clause-after : goal.returns-in-Flowspan-clause-after
+returns-in-Flowspan-clause-after g c = rw c.in-Flowspan.is (alike_of refl)
 
-pub returns-in_err-start_of-in-StartOf : goal.returns-in_err-start_of-in-StartOf
-returns-in_err-start_of-in-StartOf g c =
-    let p = err_from_is_err_and c.from_residual-in_err-start_of-in-StartOf.result c.from_residual-in_err-start_of-in-StartOf.ensures.1 in
-    let does = c.in_err-start_of-in-StartOf.ensures in
-    rw (p.1, p.2, c.in-StartOf.is) (record { value = ap (told Start) does.value; line = refl; after = alike_of refl; buffer = refl })
+pub returns-in-GateList-clause-value : goal.returns-in-GateList-clause-value
+returns-in-GateList-clause-value g c =
+    let mapped : c.map-in-GateList.result ≡ told Records c.gate_list.result = search rules in
+    rw c.in-GateList.is (mapped ∙ ap (told Records) c.gate_list.ensures.value)
 
-pub returns-in_ok-flowspan-in-Flowspan : goal.returns-in_ok-flowspan-in-Flowspan
-returns-in_ok-flowspan-in-Flowspan g c =
-    let does = c.in_ok-flowspan-in-Flowspan.ensures in
-    rw c.in-Flowspan.is (record { value = ap (told Span) does.value; line = refl; after = alike_of refl; buffer = refl })
-
-pub returns-in_err-flowspan-in-Flowspan : goal.returns-in_err-flowspan-in-Flowspan
-returns-in_err-flowspan-in-Flowspan g c =
-    let p = err_from_is_err_and c.from_residual-in_err-flowspan-in-Flowspan.result c.from_residual-in_err-flowspan-in-Flowspan.ensures.1 in
-    let does = c.in_err-flowspan-in-Flowspan.ensures in
-    rw (p.1, p.2, c.in-Flowspan.is) (record { value = ap (told Span) does.value; line = refl; after = alike_of refl; buffer = refl })
-
-pub returns-in_ok-gate_list-in-GateList : goal.returns-in_ok-gate_list-in-GateList
-returns-in_ok-gate_list-in-GateList g c =
-    let does = c.in_ok-gate_list-in-GateList.ensures in
-    rw c.in-GateList.is (record { value = ap (told Records) does.value; line = refl; after = alike_of refl; buffer = does.after })
-
-pub returns-in_err-gate_list-in-GateList : goal.returns-in_err-gate_list-in-GateList
-returns-in_err-gate_list-in-GateList g c =
-    let p = err_from_is_err_and c.from_residual-in_err-gate_list-in-GateList.result c.from_residual-in_err-gate_list-in-GateList.ensures.1 in
-    let does = c.in_err-gate_list-in-GateList.ensures in
-    rw (p.1, p.2, c.in-GateList.is) (record { value = ap (told Records) does.value; line = refl; after = alike_of refl; buffer = does.after })
+pub returns-in-GateList-clause-after : goal.returns-in-GateList-clause-after
+returns-in-GateList-clause-after g c = rw c.in-GateList.is (alike_of refl)

@@ -14,7 +14,7 @@ use Rattle.plan.proofs.plan.Plan.place.Goals as goal
 pub returns-then-is_some : goal.returns-then-is_some
 returns-then-is_some g c =
     let plan = c.args.self.now in
-    let x = offered c.args.flow.now in
+    let x = offered c.args.offer.now.flow in
     let net = network (g.L.Line.meaning plan.line) c.args.setup.now in
     let named = held-found x.number plan.rows _ c.find.ensures.cases in
     record { placed = answer-held net g.L.Line.most (flows plan.rows) x (named ∙ (cc)) }
@@ -22,7 +22,7 @@ returns-then-is_some g c =
 pub returns-in_err-row : goal.returns-in_err-row
 returns-in_err-row g c =
     let plan = c.args.self.now in
-    let x = offered c.args.flow.now in
+    let x = offered c.args.offer.now.flow in
     let net = network (g.L.Line.meaning plan.line) c.args.setup.now in
     let p = err_from_is_err_and c.from_residual.result c.from_residual.ensures.1 in
     let free = c.in-Some.ensures.cases in
@@ -33,7 +33,7 @@ returns-in_err-row g c =
 pub returns-in_err-row-2 : goal.returns-in_err-row-2
 returns-in_err-row-2 g c =
     let plan = c.args.self.now in
-    let x = offered c.args.flow.now in
+    let x = offered c.args.offer.now.flow in
     let net = network (g.L.Line.meaning plan.line) c.args.setup.now in
     let p = err_from_is_err_and c.from_residual-in_err-row-2.result c.from_residual-in_err-row-2.ensures.1 in
     let free = c.in-Some.ensures.cases in
@@ -45,12 +45,12 @@ returns-in_err-row-2 g c =
 pub invariant_of-row-clause-below : goal.invariant_of-row-clause-below
 invariant_of-row-clause-below g c =
     let made = c.in_ok-row.row in
-    (placed-fits (flows c.args.self.now.rows) c.args.flow.now.start (flow made) c.in_ok-row-2.field-0 (sym c.in_ok-row-2.ensures.value)).0
+    (placed-fits (flows c.args.self.now.rows) c.args.offer.now.flow.start (flow made) c.in_ok-row-2.field-0 (sym c.in_ok-row-2.ensures.value)).0
 
 pub returns : goal.returns
 returns g c =
     let plan = c.args.self.now in
-    let x = offered c.args.flow.now in
+    let x = offered c.args.offer.now.flow in
     let net = network (g.L.Line.meaning plan.line) c.args.setup.now in
     let row = c.in_ok-row.row in
     let s = c.in_ok-row-2.field-0 in
@@ -60,7 +60,7 @@ returns g c =
     let value = c.in_ok-row-2.ensures.value in
     let done = answer-placed net g.L.Line.most (flows plan.rows) x fresh (room-left plan.rows _ plan.long free.0 free.1) made.passes in
     let at = ap (λ (f : Flow). placed (flows plan.rows) x.chosen f) made.flow in
-    let fitting = placed-fits (flows plan.rows) c.args.flow.now.start (flow row) s (sym value) in
+    let fitting = placed-fits (flows plan.rows) c.args.offer.now.flow.start (flow row) s (sym value) in
     record {
       placed = record {
         done = done ∙ sym at ∙ sym value;
