@@ -1,10 +1,10 @@
 -- What is printed of an input, by its line and by the answers to its calls.
 -- Assumes nothing.
-use Rattle.std.proofs.Common.{◌≡◌, ℕ, ◌<◌, ◌≤◌, Bool, true, false, cond, ltb, List, [], ◌∷◌, length, get_or, drop, Ok, Err, IfOk, codes, Result, refl, sym, ap, ◌∙◌, arith}
+use Rattle.std.proofs.Common.{◌≡◌, ◌<◌, ◌≤◌, ℕ, Bool, true, false, cond, ltb, List, [], ◌∷◌, length, get_or, drop, Ok, Err, IfOk, codes, Result, refl, sym, ap, ◌∙◌, arith}
 use Rattle.std.specs.Result.{IsErr}
 use Rattle.std.proofs.lemmas.Result.{IfOk-weaker, IfOk-from_err}
 use Rattle.std.specs.Fmt.{digits}
-use Rattle.std.proofs.lemmas.Bool.{lt-ltb, le-ltb, cond-true, cond-false}
+use Rattle.std.proofs.lemmas.Bool.{le-ltb, cond-false}
 use Rattle.fault.specs.declared.kinds.PlanFault.{PlanFault}
 use Rattle.fault.specs.declared.kinds.PlanFault.TheVariants.{Record, Filling}
 use Rattle.fault.specs.declared.kinds.RecordFault.TheVariants.{Sheet}
@@ -25,10 +25,6 @@ use Rattle.report.specs.Runs.{input_line, Stopped}
 use Rattle.report.proofs.Lines.{are-codes_true, are-codes_false}
 
 module _ (s : List ℕ) where
-  -- an input that is too short has no line
-  pub input-line_short : length s < head s → input_line s ≡ Err (Record (Sheet (Unfinished 0)))
-  input-line_short less = cond-true (ltb (length s) (head s)) _ _ (lt-ltb (length s) (head s) less)
-
   module _ (long : head s ≤ length s) where
     -- one whose rate codes are refused has none
     pub input-line_refused : (Codes (rate_codes s) → ⊥) → input_line s ≡ Err Filling
@@ -59,20 +55,14 @@ module _ (s : List ℕ) where
   stopped_without-line e none text =
       sym (printed-is text ∙ ap (λ (l : Result Wires PlanFault). elim l [ Err e ↦ refused_line e | Ok w ↦ set_up (text w) (answers w s) ]) none)
 
-  module _ (w : Wires) (is : input_line s ≡ Ok w) (first : Result Reply PlanFault) (rest : List (Result Reply PlanFault)) (told : answers w s ≡ first ∷ rest) where
-    printed_set-up : (text : Wires → List (Result Reply PlanFault) → List ℕ) → printed text s ≡ set_up (text w) (first ∷ rest)
-    printed_set-up text =
-        printed-is text
-        ∙ ap (λ (l : Result Wires PlanFault). elim l [ Err e ↦ refused_line e | Ok v ↦ set_up (text v) (answers v s) ]) is
-        ∙ ap (set_up (text w)) told
-
-    -- where the set-up is refused, so is it printed
-    pub stopped_at-set-up : (e : PlanFault) → first ≡ Err e → Stopped s (Refused e)
-    stopped_at-set-up e refused text = sym (printed_set-up text ∙ ap (λ (r : Result Reply PlanFault). set_up (text w) (r ∷ rest)) refused)
-
-    -- where it is done, a text of the other answers is printed
-    pub printed-after : (r : Reply) → first ≡ Ok r → (text : Wires → List (Result Reply PlanFault) → List ℕ) → text w rest ≡ printed text s
-    printed-after r done text = sym (printed_set-up text ∙ ap (λ (r : Result Reply PlanFault). set_up (text w) (r ∷ rest)) done)
+  -- where there is one and the set-up is done, a text of the other answers is printed
+  pub printed-after : (w : Wires) → input_line s ≡ Ok w → (r : Reply) (rest : List (Result Reply PlanFault)) → answers w s ≡ Ok r ∷ rest →
+      (text : Wires → List (Result Reply PlanFault) → List ℕ) → text w rest ≡ printed text s
+  printed-after w is r rest told text =
+      sym
+      (printed-is text
+      ∙ ap (λ (l : Result Wires PlanFault). elim l [ Err e ↦ refused_line e | Ok v ↦ set_up (text v) (answers v s) ]) is
+      ∙ ap (set_up (text w)) told)
 
 -- the first of some answers and the others
 pub first-and-rest : (told : List (Result Reply PlanFault)) (first : Result Reply PlanFault) (rest : List (Result Reply PlanFault)) → 0 < length told → first ≡ get_or told 0 first → rest ≡ drop 1 told → told ≡ first ∷ rest

@@ -1,8 +1,10 @@
 -- A refusal of the line or of the set-up is printed, and else a text of the answers after the set-up's.
-use Rattle.std.proofs.Common.{◌≡◌, List, ◌∷◌, sym, subst, ap, ◌∙◌, vec_items, rules}
+use Rattle.std.proofs.Common.{◌≡◌, List, ◌∷◌, Result, sym, subst, ap, ◌∙◌, vec_items, rules}
 use Rattle.std.proofs.lemmas.Result.{err_from_is_err_and}
 use Rattle.line.specs.Kinds.{ethernet_meaning}
 use Rattle.plan.specs.declared.call.Call.{Call}
+use Rattle.plan.specs.declared.call.Reply.{Reply}
+use Rattle.fault.specs.declared.kinds.PlanFault.{PlanFault}
 use Rattle.plan.specs.Alike.{Alike}
 use Rattle.plan.specs.Calls.{Model, empty}
 use Rattle.plan.specs.Models.{model, wires}
@@ -36,6 +38,6 @@ returns c =
             holds =
                 subst (λ (m : Model). Alike (model c.in_ok-done.done.plan.setup c.in_ok-done.done.plan.rows) m) (after_is s x parts w)
                 (subst (λ (cs : List Call). Alike (model c.in_ok-done.done.plan.setup c.in_ok-done.done.plan.rows) (after w empty cs)) called told.holds);
-            printed = printed-after s w parts.line c.remove.result (vec_items c.remove.new.self) (sym answered ∙ split) c.in_ok-remove.field-0 c.in_ok-remove.was;
+            printed = printed-after s w parts.line c.in_ok-remove.field-0 (vec_items c.remove.new.self) (sym answered ∙ split ∙ ap (λ (r : Result Reply PlanFault). r ∷ vec_items c.remove.new.self) c.in_ok-remove.was);
           };
     }
