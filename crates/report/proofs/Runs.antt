@@ -11,13 +11,12 @@ use Rattle.fault.specs.declared.kinds.RecordFault.TheVariants.{Sheet}
 use Rattle.fault.specs.declared.kinds.SheetFault.TheVariants.{Unfinished}
 use Rattle.line.specs.declared.ethernet.Ethernet.{Ethernet}
 use Rattle.line.specs.Fillings.{Codes, Coded}
-use Rattle.line.specs.Kinds.{ethernet_meaning}
 use Rattle.line.proofs.Codes.{coded-is}
 use Rattle.plan.specs.declared.call.Reply.{Reply}
 use Rattle.plan.specs.Calls.{Wires}
 use Rattle.plan.specs.Models.{wires}
 use Rattle.report.specs.Inputs.{head, rate_codes}
-use Rattle.report.specs.Lines.{coded, line}
+use Rattle.report.specs.Lines.{wired, coded, line}
 use Rattle.report.specs.Listings.{refused_line, answers, set_up, printed}
 use Rattle.report.specs.declared.run.Stop.{Stop}
 use Rattle.report.specs.declared.run.Stop.TheVariants.{NoMemory, Refused}
@@ -33,7 +32,7 @@ module _ (s : List ℕ) where
         ∙ ap (λ (b : Bool). cond b (Ok (coded (rate_codes s))) (Err Filling)) (are-codes_false (rate_codes s) none)
 
     -- its line is the one that was filled
-    pub input-line_filled : (filled : Ethernet) → Codes (rate_codes s) → Coded (rate_codes s) filled → input_line s ≡ Ok (wires 1522 (ethernet_meaning filled))
+    pub input-line_filled : (filled : Ethernet) → Codes (rate_codes s) → Coded (rate_codes s) filled → input_line s ≡ Ok (wired filled)
     input-line_filled filled some is =
         cond-false (ltb (length s) (head s)) _ _ (le-ltb (length s) (head s) long)
         ∙ ap (λ (b : Bool). cond b (Ok (coded (rate_codes s))) (Err Filling)) (are-codes_true (rate_codes s) some)

@@ -5,18 +5,17 @@ use Rattle.fault.specs.declared.kinds.PlanFault.{PlanFault}
 use Rattle.fault.specs.declared.kinds.PlanFault.TheVariants.{Record}
 use Rattle.fault.specs.declared.kinds.RecordFault.TheVariants.{Sheet}
 use Rattle.fault.specs.declared.kinds.SheetFault.TheVariants.{Unfinished}
-use Rattle.line.specs.Kinds.{ethernet_meaning}
 use Rattle.plan.specs.declared.call.Reply.{Reply}
 use Rattle.plan.specs.Alike.{Alike}
 use Rattle.plan.specs.Calls.{Wires, empty}
-use Rattle.plan.specs.Models.{model, wires}
+use Rattle.plan.specs.Models.{model}
 use Rattle.plan.specs.Steps.{after}
 use Rattle.report.specs.declared.input.Input.{Input}
 use Rattle.report.specs.declared.run.Run.{Run}
 use Rattle.report.specs.declared.run.Stop.{Stop}
 use Rattle.report.specs.declared.run.Stop.TheVariants.{NoMemory, Refused}
 use Rattle.report.specs.Inputs.{cycle, head, rate_codes, port_sheet, flow_sheet, calls}
-use Rattle.report.specs.Lines.{line}
+use Rattle.report.specs.Lines.{wired, line}
 use Rattle.report.specs.Listings.{refused_line, at, printed}
 
 -- the line of an input; one that is too short is an unfinished record 0
@@ -26,7 +25,7 @@ input_line s = cond (nat_lt (length s) (head s)) (Err (Record (Sheet (Unfinished
 -- the parts of an input that has a line
 pub record Parts (s : List ℕ) (x : Input) : Type 0 where
   pub cycle : x.cycle ≡ cycle s
-  pub line : input_line s ≡ Ok (wires 1522 (ethernet_meaning x.line))
+  pub line : input_line s ≡ Ok (wired x.line)
   pub ports : x.ports.now ≡ port_sheet s
   pub flows : x.flows.now ≡ flow_sheet s
 
@@ -36,8 +35,8 @@ pub record Ran (s : List ℕ) (run : Run) : Type 0 where
   pub line : run.done.plan.line ≡ run.input.line
   pub holds :
       Alike (model run.done.plan.setup run.done.plan.rows)
-      (after (wires 1522 (ethernet_meaning run.input.line)) empty (calls (cycle s) (at (port_sheet s)) (at (flow_sheet s))))
-  pub printed : (text : Wires → List (Result Reply PlanFault) → List ℕ) → text (wires 1522 (ethernet_meaning run.input.line)) run.done.answers.items ≡ printed text s
+      (after (wired run.input.line) empty (calls (cycle s) (at (port_sheet s)) (at (flow_sheet s))))
+  pub printed : (text : Wires → List (Result Reply PlanFault) → List ℕ) → text (wired run.input.line) run.done.answers.items ≡ printed text s
 
 -- why there is no run; the line of a refusal is what is printed, whatever the text
 abbrev pub Stopped : List ℕ → Stop → Type 0

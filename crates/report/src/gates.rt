@@ -1,8 +1,8 @@
 // The text of gate lists.
 ghost use Rattle.std.specs.Prelude.{◌/◌, length, Some};
-ghost use Rattle.line.specs.Kinds.{ethernet_meaning};
-ghost use Rattle.plan.specs.Models.{model, wires};
+ghost use Rattle.plan.specs.Models.{model};
 ghost use Rattle.report.specs.GateLists.{record_line, record_lines, port_text, port_texts};
+ghost use Rattle.report.specs.Lines.{wired};
 
 use crate::text::RefusedLine;
 use line::Ethernet;
@@ -50,7 +50,7 @@ struct PortGates<'a> {
 }
 
 impl<'a> fmt::Display for PortGates<'a> {
-    ghost output = { λ gates. Some (port_text (wires 1522 (ethernet_meaning gates.plan.now.line)) (model gates.plan.now.setup gates.plan.now.rows) gates.port) };
+    ghost output = { λ gates. Some (port_text (wired gates.plan.now.line) (model gates.plan.now.setup gates.plan.now.rows) gates.port) };
 
     fn fmt<W: fmt::Write>(&self, f: &mut fmt::Formatter<W>) -> fmt::Result {
         let port = self.port;
@@ -73,7 +73,7 @@ pub(crate) struct GateLists<'a> {
 }
 
 impl<'a> fmt::Display for GateLists<'a> {
-    ghost output = { λ lists. Some (port_texts (wires 1522 (ethernet_meaning lists.plan.now.line)) (model lists.plan.now.setup lists.plan.now.rows) lists.ports 0) };
+    ghost output = { λ lists. Some (port_texts (wired lists.plan.now.line) (model lists.plan.now.setup lists.plan.now.rows) lists.ports 0) };
 
     fn fmt<W: fmt::Write>(&self, f: &mut fmt::Formatter<W>) -> fmt::Result {
         for port in 0..self.ports {

@@ -56,10 +56,8 @@ impl<'a> AnswerLines<'a> {
     fn number_of(&self, index: usize) -> u16
         ensures value { result ≡ number_of self.now.flows.now index }
     {
-        match Reader::new(self.flows, index).read::<FlowRecord>() {
-            Ok(record) => record.number,
-            Err(_) => 0,
-        }
+        let record = Reader::new(self.flows, index).read::<FlowRecord>();
+        record.map_or(0, |record| record.number)
     }
 }
 

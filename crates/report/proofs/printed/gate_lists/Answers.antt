@@ -2,14 +2,14 @@
 use Rattle.std.proofs.Common.{ℕ, List, Result, string_bytes, ◌∙◌}
 use Rattle.std.proofs.lemmas.Result.{IfOk-weaker}
 use Rattle.fault.specs.declared.kinds.PlanFault.{PlanFault}
-use Rattle.line.specs.Kinds.{ethernet_meaning}
 use Rattle.plan.specs.declared.call.Reply.{Reply}
 use Rattle.plan.specs.Calls.{Wires, empty}
-use Rattle.plan.specs.Models.{model, wires}
+use Rattle.plan.specs.Models.{model}
 use Rattle.plan.specs.Steps.{after}
 use Rattle.report.specs.GateLists.{port_texts}
 use Rattle.report.specs.Inputs.{cycle, port_sheet, flow_sheet, calls}
 use Rattle.report.specs.Listings.{at}
+use Rattle.report.specs.Lines.{wired}
 use Rattle.report.proofs.GateLists.{port-texts_alike}
 use Rattle.report.proofs.Runs.{stop_line}
 use Rattle.report.proofs.printed.gate_lists.Goals as goal
@@ -23,12 +23,12 @@ returns-in-Ok c =
     let s = c.args.octets.now in
     let run = c.in-Ok.run' in
     let ran = c.in-Ok.ensures.cases in
-    let w = wires 1522 (ethernet_meaning run.input.line) in
+    let w = wired run.input.line in
     let m = model run.done.plan.setup run.done.plan.rows in
     record {
       made =
           IfOk-weaker c.format.result _ _
-          (λ t e. e ∙ (λ i. port_texts (wires 1522 (ethernet_meaning (ran.line i))) m (c.ports.ensures.value i) 0) ∙ port-texts_alike w m _ ran.holds w.meaning.ports 0 ∙ ran.printed (lists s))
+          (λ t e. e ∙ (λ i. port_texts (wired (ran.line i)) m (c.ports.ensures.value i) 0) ∙ port-texts_alike w m _ ran.holds w.meaning.ports 0 ∙ ran.printed (lists s))
           c.format.ensures.ok;
     }
 

@@ -1,9 +1,9 @@
 -- Each turn adds the text of its port.
 use Rattle.std.proofs.Common.{◌+◌, ◌-◌, rules}
 use Rattle.std.specs.Result.{IsOk}
-use Rattle.line.specs.Kinds.{ethernet_meaning}
-use Rattle.plan.specs.Models.{model, wires}
+use Rattle.plan.specs.Models.{model}
 use Rattle.report.specs.GateLists.{port_text, port_texts}
+use Rattle.report.specs.Lines.{wired}
 use Rattle.report.proofs.GateLists.{port-texts-next}
 use Rattle.report.proofs.Texts.{written_more}
 use Rattle.report.proofs.gates.GateListsDisplay.fmt.Goals as goal
@@ -11,7 +11,7 @@ use Rattle.report.proofs.gates.GateListsDisplay.fmt.Goals as goal
 pub loop-port-preserved : goal.loop-port-preserved
 loop-port-preserved g c plain =
     let plan = c.args.self.now.plan.now in
-    let w = wires 1522 (ethernet_meaning plan.line) in
+    let w = wired plan.line in
     let m = model plan.setup plan.rows in
     let n = c.args.self.now.ports in
     let q = c.loop-port.port in

@@ -1,16 +1,16 @@
 -- The list stands at the front of the buffer.
 use Rattle.std.proofs.Common.{◌*◌, take, replicate, codes, decimal, ◌++◌, refl, ap, ◌∙◌, rules}
 use Rattle.std.proofs.Output.{has_written_of_eq}
-use Rattle.line.specs.Kinds.{ethernet_meaning}
-use Rattle.plan.specs.Models.{model, wires}
+use Rattle.plan.specs.Models.{model}
 use Rattle.report.specs.GateLists.{record_lines}
+use Rattle.report.specs.Lines.{wired}
 use Rattle.report.proofs.GateLists.{length_of_fives, port_text-is}
 use Rattle.report.proofs.gates.PortGatesDisplay.fmt.Goals as goal
 
 pub returns-in-Ok-clause-writes : goal.returns-in-Ok-clause-writes
 returns-in-Ok-clause-writes g c plain ok =
     let plan = c.args.self.now.plan.now in
-    let w = wires 1522 (ethernet_meaning plan.line) in
+    let w = wired plan.line in
     let port = c.args.self.now.port in
     let count = c.in-Ok.count in
     let after = c.gate_list.new.buffer in

@@ -1,16 +1,16 @@
 -- A refusal of the line or of the set-up is printed, and else a text of the answers after the set-up's.
 use Rattle.std.proofs.Common.{◌≡◌, List, ◌∷◌, Result, sym, subst, ap, ◌∙◌, vec_items, rules}
 use Rattle.std.proofs.lemmas.Result.{err_from_is_err_and}
-use Rattle.line.specs.Kinds.{ethernet_meaning}
 use Rattle.plan.specs.declared.call.Call.{Call}
 use Rattle.plan.specs.declared.call.Reply.{Reply}
 use Rattle.fault.specs.declared.kinds.PlanFault.{PlanFault}
 use Rattle.plan.specs.Alike.{Alike}
 use Rattle.plan.specs.Calls.{Model, empty}
-use Rattle.plan.specs.Models.{model, wires}
+use Rattle.plan.specs.Models.{model}
 use Rattle.plan.specs.Steps.{after, replies}
 use Rattle.report.specs.Inputs.{calls}
 use Rattle.report.specs.Listings.{answers}
+use Rattle.report.specs.Lines.{wired}
 use Rattle.report.proofs.Listings.{answers_are, after_is}
 use Rattle.report.proofs.Runs.{stopped_without-line, first-and-rest, printed-after}
 use Rattle.report.proofs.run.Run.new.Goals as goal
@@ -25,7 +25,7 @@ returns c =
     let s = c.args.octets.now in
     let x = c.in_ok-input.input in
     let parts = c.in_ok-input.ensures in
-    let w = wires 1522 (ethernet_meaning x.line) in
+    let w = wired x.line in
     let told = c.in_ok-done.ensures in
     let called : c.deref.result.now ≡ calls x.cycle x.ports x.flows = c.deref.ensures.value ∙ c.in_ok-calls.ensures.made in
     let answered : vec_items c.in_ok-done.done.answers ≡ answers w s = told.answers ∙ ap (replies w empty 0) called ∙ answers_are s x parts w in
