@@ -38,7 +38,7 @@ printed-hex base digits p n small shown laid =
 
 -- five octets in hexadecimal
 pub hex-octets-five : (s : List ℕ) → length s ≡ 5 →
-    codes " " ++ (hex (get_or s 0 0) ++ (codes " " ++ (hex (get_or s 1 0) ++ (codes " " ++ (hex (get_or s 2 0) ++ (codes " " ++ (hex (get_or s 3 0) ++ (codes " " ++ (hex (get_or s 4 0)))))))))) ≡ hex_octets s
+    codes " " ++ (hex (get_or s 0 0) ++ (codes " " ++ (hex (get_or s 1 0) ++ (codes " " ++ (hex (get_or s 2 0) ++ (codes " " ++ (hex (get_or s 3 0) ++ (codes " " ++ hex (get_or s 4 0))))))))) ≡ hex_octets s
 hex-octets-five [] five = absurd (omega arith)
 hex-octets-five (a ∷ []) five = absurd (omega arith)
 hex-octets-five (a ∷ b ∷ []) five = absurd (omega arith)
@@ -101,7 +101,3 @@ pub port-texts-next : (w : Wires) (m : Model) (n q : ℕ) → q < n → port_tex
 port-texts-next w m n q less =
     let left : n - q ≡ suc (n - (q + 1)) = omega arith in
     ap (λ (k : ℕ). port_texts w m k q) left ∙ ap (λ (k : ℕ). port_text w m q ++ port_texts w m (n - (q + 1)) k) (sym (add-one q))
-
--- past the last port nothing is left
-pub port-texts-last : (w : Wires) (m : Model) (n q : ℕ) → n ≤ q → port_texts w m (n - q) q ≡ []
-port-texts-last w m n q over = let none : n - q ≡ 0 = omega arith in ap (λ (k : ℕ). port_texts w m k q) none

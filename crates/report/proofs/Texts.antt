@@ -1,18 +1,14 @@
 -- A text that is written piece by piece.
 -- Assumes nothing.
-use Rattle.std.proofs.Common.{◌≡◌, ℕ, List, [], ◌++◌, sym, refl, ap, ◌∙◌, append_assoc, append-nil}
-use Rattle.std.specs.Fmt.{HasWritten, IsPlainFormatter}
-use Rattle.std.proofs.Output.{writes_in_calls_nil, has_written_append, has_written_of_eq}
+use Rattle.std.proofs.Common.{◌≡◌, ℕ, List, [], ◌++◌, sym, ap, ◌∙◌, append_assoc, append-nil}
+use Rattle.std.specs.Fmt.{HasWritten}
+use Rattle.std.proofs.Output.{has_written_append, has_written_of_eq}
 use Rattle.std.specs.declared.fmt.Formatter.{Formatter}
 
 module _ {W : Type 0} (took : W → List ℕ → W → Type 0) (f : Formatter W) (whole : List ℕ) where
   -- from f to g the whole was written but for the rest
   abbrev pub WrittenBut : List ℕ → Formatter W → Type 0
   WrittenBut rest g = (front : List ℕ) × HasWritten took f front g × (front ++ rest ≡ whole)
-
-  -- at first all is left
-  pub written-nothing : IsPlainFormatter f → WrittenBut whole f
-  written-nothing plain = ([], record { wrote = writes_in_calls_nil took f.writer; plain = plain }, refl)
 
   -- with one piece more, less is left
   pub written_more : (piece rest rest' : List ℕ) (g h : Formatter W) → rest ≡ piece ++ rest' → WrittenBut rest g → HasWritten took g piece h → WrittenBut rest' h
