@@ -18,5 +18,6 @@ Where nothing could be planned there is only one line:
 ";
 
 fn main(rt: HostRuntime) -> anyhow::Result<()> {
+    // A closure, since a function of another crate is not proved where its name alone is passed.
     print_text(&rt, "gates", HELP, |heap, octets| gate_lists(heap, octets))
 }

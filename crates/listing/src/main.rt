@@ -23,5 +23,6 @@ or only one line, where nothing could be planned:
 ";
 
 fn main(rt: HostRuntime) -> anyhow::Result<()> {
+    // A closure, since a function of another crate is not proved where its name alone is passed.
     print_text(&rt, "listing", HELP, |heap, octets| listing(heap, octets))
 }
