@@ -1,10 +1,7 @@
 // Prints the gate list of each port of the plan of an input, readably and as octets.
 #![tactic(auto)]
 
-use anyhow::anyhow;
-use report::gate_lists;
-use std::env;
-use std::io::Read;
+use report::{gate_lists, print_text};
 
 // How to read what is printed.
 const HELP: &str = "\
@@ -20,23 +17,7 @@ Where nothing could be planned there is only one line:
   X refusal   the input is too short (1), or its line or its set-up is refused
 ";
 
-// Prints the gate lists of the input, or the help where it is asked for.
-fn run(rt: &HostRuntime) -> anyhow::Result<()> {
-    let heap = rt.alloc();
-    let mut args = env::args(rt)?;
-    if let Some(word) = args.nth(1) {
-        if word.as_str() == "--help" {
-            rt.print(HELP)?;
-            return Ok(());
-        }
-        return Err(anyhow!("gates takes no argument but --help; its input is the standard input"));
-    }
-    let mut input = Vec::new(heap);
-    rt.stdin().read_to_end(&mut input)?;
-    rt.print(gate_lists(heap, &input)?)?;
-    Ok(())
-}
-
 fn main(rt: HostRuntime) -> anyhow::Result<()> {
-    run(&rt)
+    // A closure, since a function of another crate is not proved where its name alone is passed.
+    print_text(&rt, "gates", HELP, |heap, octets| gate_lists(heap, octets))
 }

@@ -1,10 +1,7 @@
 // Prints the listing of the input on the standard input, or how to make an input.
 #![tactic(auto)]
 
-use anyhow::anyhow;
-use report::listing;
-use std::env;
-use std::io::Read;
+use report::{listing, print_text};
 
 // How to make an input and read a listing.
 const HELP: &str = "\
@@ -25,25 +22,7 @@ or only one line, where nothing could be planned:
   X refusal          the input is too short (1), or its line or its set-up is refused
 ";
 
-// Prints the listing of the input, or the help where it is asked for.
-fn run(rt: &HostRuntime) -> anyhow::Result<()> {
-    let heap = rt.alloc();
-    let mut args = env::args(rt)?;
-    if let Some(word) = args.nth(1) {
-        if word.as_str() == "--help" {
-            rt.print(HELP)?;
-            return Ok(());
-        }
-        return Err(anyhow!(
-            "listing takes no argument but --help; its input is the standard input"
-        ));
-    }
-    let mut input = Vec::new(heap);
-    rt.stdin().read_to_end(&mut input)?;
-    rt.print(listing(heap, &input)?)?;
-    Ok(())
-}
-
 fn main(rt: HostRuntime) -> anyhow::Result<()> {
-    run(&rt)
+    // A closure, since a function of another crate is not proved where its name alone is passed.
+    print_text(&rt, "listing", HELP, |heap, octets| listing(heap, octets))
 }

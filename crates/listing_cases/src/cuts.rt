@@ -36,27 +36,28 @@ fn at_every_octet(rt: HostRuntime) -> Result<(), Fail> {
 #[test]
 fn too_short_comes_first(rt: HostRuntime) -> Result<(), Fail> {
     let heap = rt.alloc();
-    // no port: nothing is missing, and the filling is refused
-    check_listing(&rt, heap, &[0, 15, 66, 64, 0], "X 5\n")?;
-    // no port, with an octet behind
-    check_listing(&rt, heap, &[0, 15, 66, 64, 0, 3], "X 5\n")?;
-    // no port, and cycle 0
-    check_listing(&rt, heap, &[0, 0, 0, 0, 0], "X 5\n")?;
-    // one port and nothing behind
-    check_listing(&rt, heap, &[0, 15, 66, 64, 1], "X 1\n")?;
-    // two of three rate codes
-    check_listing(&rt, heap, &[0, 15, 66, 64, 3, 3, 3], "X 1\n")?;
-    // all rate codes and no port record
-    check_listing(&rt, heap, &[0, 15, 66, 64, 2, 3, 3], "X 1\n")?;
-    // a wrong rate code before a port record of 7 octets
-    check_listing(
-        &rt,
-        heap,
-        &[0, 15, 66, 64, 1, 0, 0, 50, 0, 31, 64, 190, 64],
-        "X 1\n",
-    )?;
-    // 33 ports and nothing behind
-    check_listing(&rt, heap, &[0, 15, 66, 64, 33], "X 1\n")?;
-    // cycle 0, one port and nothing behind
-    check_listing(&rt, heap, &[0, 0, 0, 0, 1], "X 1\n")
+    let table: [(&[u8], &str); 9] = [
+        // no port: nothing is missing, and the filling is refused
+        (&[0, 15, 66, 64, 0], "X 5\n"),
+        // no port, with an octet behind
+        (&[0, 15, 66, 64, 0, 3], "X 5\n"),
+        // no port, and cycle 0
+        (&[0, 0, 0, 0, 0], "X 5\n"),
+        // one port and nothing behind
+        (&[0, 15, 66, 64, 1], "X 1\n"),
+        // two of three rate codes
+        (&[0, 15, 66, 64, 3, 3, 3], "X 1\n"),
+        // all rate codes and no port record
+        (&[0, 15, 66, 64, 2, 3, 3], "X 1\n"),
+        // a wrong rate code before a port record of 7 octets
+        (&[0, 15, 66, 64, 1, 0, 0, 50, 0, 31, 64, 190, 64], "X 1\n"),
+        // 33 ports and nothing behind
+        (&[0, 15, 66, 64, 33], "X 1\n"),
+        // cycle 0, one port and nothing behind
+        (&[0, 0, 0, 0, 1], "X 1\n"),
+    ];
+    for (octets, text) in table {
+        check_listing(&rt, heap, octets, text)?;
+    }
+    Ok(())
 }

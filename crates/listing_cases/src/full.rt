@@ -1,5 +1,5 @@
 // A plan that holds 64 flows.
-use crate::inputs::{PORT, add_flows, check_listing, flow, input};
+use crate::inputs::{PORT, add_records, check_listing, flow, input};
 use std::test::Fail;
 
 // Flows 1 to 64 take 576 ns each, back to back from 0; the last ends at 36,864 and arrives 100 later.
@@ -10,9 +10,9 @@ fn more_than_64_flows(rt: HostRuntime) -> Result<(), Fail> {
     let mut text = String::new(heap);
     for k in 0..64 {
         let number = k + 1;
-        add_flows(&mut octets, &[flow(number, 64, 1_000_000, 676, &[0])])?;
+        add_records(&mut octets, &[flow(number, 64, 1_000_000, 676, &[0])])?;
         let start = k * 576;
-        text.push_str(&format!(in heap; "F {number} {start}\n")?)?;
+        writeln!(text, "F {number} {start}")?;
     }
     let refused = [
         flow(65, 64, 1_000_000, 676, &[0]),
@@ -21,7 +21,7 @@ fn more_than_64_flows(rt: HostRuntime) -> Result<(), Fail> {
         // 7 before 9: the period does not divide the cycle
         flow(66, 64, 300_000, 676, &[0]),
     ];
-    add_flows(&mut octets, &refused)?;
+    add_records(&mut octets, &refused)?;
     // 1 before 7: one octet of a record
     octets.push(0)?;
     text.push_str("R 65 7\nR 64 6\nR 66 7\nR 0 1\nS 36964\n")?;

@@ -70,20 +70,24 @@ port 1: 4 gate records
 fn refused(rt: HostRuntime) -> Result<(), Fail> {
     let heap = rt.alloc();
     let flows = [flow(1, 64, 1_000, 20_000, &[0])];
-    check_lists(&rt, heap, &[], "X 1\n")?;
-    check_lists(&rt, heap, &[0, 15, 66, 64, 1], "X 1\n")?;
-    check_lists(&rt, heap, &[0, 15, 66, 64, 0], "X 5\n")?;
-    check_lists(
-        &rt,
-        heap,
-        &input(heap, 1_000, &[4], &PORT, &flows)?,
-        "X 5\n",
-    )?;
-    check_lists(&rt, heap, &input(heap, 999, &[3], &PORT, &flows)?, "X 5\n")?;
-    // a port record with a spare bit
-    let octets = [0, 15, 66, 64, 1, 3, 0, 50, 0, 31, 64, 190, 64, 1];
-    check_lists(&rt, heap, &octets, "X 2\n")?;
-    // and one with best effort up to 63
-    let octets = [0, 15, 66, 64, 1, 3, 0, 50, 0, 31, 64, 7, 224, 0];
-    check_lists(&rt, heap, &octets, "X 3\n")
+    let wrong_code = input(heap, 1_000, &[4], &PORT, &flows)?;
+    let short_cycle = input(heap, 999, &[3], &PORT, &flows)?;
+    let table: [(&[u8], &str); 7] = [
+        (&[], "X 1\n"),
+        (&[0, 15, 66, 64, 1], "X 1\n"),
+        (&[0, 15, 66, 64, 0], "X 5\n"),
+        (&wrong_code, "X 5\n"),
+        (&short_cycle, "X 5\n"),
+        // a port record with a spare bit
+        (
+            &[0, 15, 66, 64, 1, 3, 0, 50, 0, 31, 64, 190, 64, 1],
+            "X 2\n",
+        ),
+        // and one with best effort up to 63
+        (&[0, 15, 66, 64, 1, 3, 0, 50, 0, 31, 64, 7, 224, 0], "X 3\n"),
+    ];
+    for (octets, text) in table {
+        check_lists(&rt, heap, octets, text)?;
+    }
+    Ok(())
 }

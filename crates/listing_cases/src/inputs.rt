@@ -2,7 +2,6 @@
 ghost use Rattle.std.specs.Prelude.{◌≡◌, IfOk, vec_len};
 ghost use Rattle.sheet.specs.declared.flow.Start.TheVariants.{Chosen, Free};
 
-use fault::PlanFault;
 use report::listing;
 use sheet::{FlowRecord, PortRecord, RecordKind, Start};
 use std::alloc::{AllocError, Global};
@@ -63,24 +62,13 @@ pub fn begun(heap: Global, cycle: u32, ports: u8) -> Result<Vec<u8>, AllocError>
     Ok(octets)
 }
 
-// The octets of a port record.
-fn port_octets(port: &PortRecord) -> Result<[u8; 8], PlanFault> {
-    let mut octets = [0; 8];
-    port.write(&mut octets)?;
-    Ok(octets)
-}
-
-// The octets of a flow record.
-fn flow_octets(flow: &FlowRecord) -> Result<[u8; 21], PlanFault> {
-    let mut octets = [0; 21];
-    flow.write(&mut octets)?;
-    Ok(octets)
-}
-
-// Adds flow records.
-pub fn add_flows(octets: &mut Vec<u8>, flows: &[FlowRecord]) -> Result<(), Fail> {
-    for flow in flows {
-        octets.extend_from_slice(&flow_octets(flow)?)?;
+// Adds records of a kind.
+pub fn add_records<K: RecordKind>(octets: &mut Vec<u8>, records: &[K]) -> Result<(), Fail> {
+    let heap = *octets.allocator();
+    for record in records {
+        let mut buffer = vec![in heap; 0; K::octet_count()]?;
+        record.write(&mut buffer)?;
+        octets.extend_from_slice(&buffer)?;
     }
     Ok(())
 }
@@ -96,9 +84,9 @@ pub fn input(
     let mut octets = begun(heap, cycle, u8::try_from(codes.len())?)?;
     octets.extend_from_slice(codes)?;
     for _ in codes {
-        octets.extend_from_slice(&port_octets(port)?)?;
+        add_records(&mut octets, &[*port])?;
     }
-    add_flows(&mut octets, flows)?;
+    add_records(&mut octets, flows)?;
     Ok(octets)
 }
 

@@ -1,29 +1,24 @@
 -- The text of gate lists, record by record and octet by octet.
 -- Assumes nothing.
-use Rattle.std.proofs.Common.{◌≡◌, ℕ, zero, suc, ◌+◌, ◌-◌, ◌*◌, ◌<◌, ◌≤◌, Bool, true, false, cond, leb, List, [], ◌∷◌, ◌++◌, length, get_or, take, drop, Ok, Err, Result, sym, refl, ap, ◌∙◌, add-one, arith}
-use Rattle.std.proofs.lemmas.List.{take_at}
+use Rattle.std.proofs.Common.{◌≡◌, ℕ, zero, suc, ◌+◌, ◌-◌, ◌*◌, ◌/◌, ◌<◌, ◌≤◌, ◌^◌, Bool, true, false, cond, leb, List, [], ◌∷◌, ◌++◌, length, get_or, take, drop, Option, Some, Ok, Err, codes, Result, sym, refl, ap, ◌∙◌, add-one, arith}
+use Rattle.std.proofs.lemmas.List.{take_at, drop-drop, length-take-le}
+use Rattle.std.proofs.lemmas.Fmt.{hex_byte}
+use Rattle.std.specs.List.{flat_map}
+use Rattle.std.specs.Option.{option_map}
+use Rattle.std.specs.Fmt.{radix_digits, radix_prefix, shown_prefix, padded_integral, format_spec}
+use Rattle.std.specs.Simd.{first_chunks}
 use Rattle.fault.specs.declared.kinds.PlanFault.{PlanFault}
 use Rattle.fault.specs.declared.kinds.PlanFault.TheVariants.{Buffer}
 use Rattle.network.specs.Gates.{Gate}
 use Rattle.sheet.specs.Fields.{number}
 use Rattle.plan.specs.Alike.{Alike}
-use Rattle.line.specs.declared.ethernet.Ethernet.{Ethernet}
-use Rattle.line.specs.Fillings.{Coded}
-use Rattle.line.specs.Kinds.{ethernet_meaning}
-use Rattle.plan.specs.declared.call.Call.{Call}
-use Rattle.plan.specs.declared.call.Reply.{Reply}
-use Rattle.plan.specs.Calls.{Wires, Model, empty}
+use Rattle.plan.specs.Calls.{Wires, Model}
 use Rattle.plan.specs.GateOctets.{gate_octets}
-use Rattle.plan.specs.Models.{wires}
-use Rattle.plan.specs.Steps.{list_of, gates_answer, list_written, after, replies}
+use Rattle.plan.specs.Steps.{list_of, gates_answer, list_written}
 use Rattle.plan.proofs.Alike.{list_alike}
 use Rattle.plan.proofs.CallsInOrder.{length-gate_octets}
-use Rattle.report.specs.GateLists.{record_line, record_lines, list_text, port_text, port_texts, lists_after, planned_lists}
-use Rattle.report.specs.declared.input.Input.{Input}
-use Rattle.report.specs.Inputs.{rate_codes, calls, Parts}
-use Rattle.report.specs.Lines.{coded}
+use Rattle.report.specs.GateLists.{hex, hex_octets, record_line, record_lines, list_text, port_text, port_texts}
 use Rattle.report.specs.Listings.{refused_line}
-use Rattle.report.proofs.Listings.{answers_are, after_is, wires_are}
 
 -- the duration from the last four of five octets
 pub duration-is : (s : List ℕ) → length s ≡ 5 → get_or s 1 0 * 16777216 + get_or s 2 0 * 65536 + get_or s 3 0 * 256 + get_or s 4 0 ≡ number (drop 1 s)
@@ -35,15 +30,34 @@ duration-is (a ∷ b ∷ c ∷ d ∷ []) five = absurd (omega arith)
 duration-is (a ∷ b ∷ c ∷ d ∷ e ∷ []) five = omega arith
 duration-is (a ∷ b ∷ c ∷ d ∷ e ∷ f ∷ s) five = absurd (omega arith)
 
--- the lines from record k on begin with its line
-pub record-lines-next : (s : List ℕ) (n k : ℕ) → k < n →
-    record_lines s (n - k) k ≡ record_line (take (k * 5 + 5 - k * 5) (drop (k * 5) s)) ++ record_lines s (n - (k + 1)) (k + 1)
-record-lines-next s n k less =
-    let left : n - k ≡ suc (n - (k + 1)) = omega arith in
-    let five : 5 ≡ k * 5 + 5 - k * 5 = omega arith in
-    ap (λ (m : ℕ). record_lines s m k) left
-    ∙ ap (λ (m : ℕ). record_line (take m (drop (k * 5) s)) ++ record_lines s (n - (k + 1)) (suc k)) five
-    ∙ ap (λ (m : ℕ). record_line (take (k * 5 + 5 - k * 5) (drop (k * 5) s)) ++ record_lines s (n - (k + 1)) m) (sym (add-one k))
+-- an octet that is printed by `{:02X}`
+pub printed-hex : (base : ℕ) (digits : Option (List ℕ)) (p : _) (n : ℕ) → n < 256 → digits ≡ Some (radix_digits 16 true n) → p ≡ format_spec 32 0 4 2 (2 ^ 64 - 1) →
+    option_map (padded_integral p false (shown_prefix p (radix_prefix base))) digits ≡ Some (hex n)
+printed-hex base digits p n small shown laid =
+    (λ i. option_map (padded_integral (laid i) false (shown_prefix (laid i) (radix_prefix base))) (shown i)) ∙ ap (λ (t : List ℕ). Some t) (hex_byte true n small)
+
+-- five octets in hexadecimal
+pub hex-octets-five : (s : List ℕ) → length s ≡ 5 →
+    codes " " ++ (hex (get_or s 0 0) ++ (codes " " ++ (hex (get_or s 1 0) ++ (codes " " ++ (hex (get_or s 2 0) ++ (codes " " ++ (hex (get_or s 3 0) ++ (codes " " ++ hex (get_or s 4 0))))))))) ≡ hex_octets s
+hex-octets-five [] five = absurd (omega arith)
+hex-octets-five (a ∷ []) five = absurd (omega arith)
+hex-octets-five (a ∷ b ∷ []) five = absurd (omega arith)
+hex-octets-five (a ∷ b ∷ c ∷ []) five = absurd (omega arith)
+hex-octets-five (a ∷ b ∷ c ∷ d ∷ []) five = absurd (omega arith)
+hex-octets-five (a ∷ b ∷ c ∷ d ∷ e ∷ []) five = refl
+hex-octets-five (a ∷ b ∷ c ∷ d ∷ e ∷ f ∷ s) five = absurd (omega arith)
+
+-- the lines of n records from record k on are those of their chunks of five octets
+pub record-lines_chunks : (s : List ℕ) (n k : ℕ) → record_lines s n k ≡ flat_map record_line (first_chunks 5 n (drop (k * 5) s))
+record-lines_chunks s zero k = refl
+record-lines_chunks s (suc n) k =
+    let next : k * 5 + 5 ≡ suc k * 5 = omega arith in
+    ap (λ (t : List ℕ). record_line (take 5 (drop (k * 5) s)) ++ t)
+    (record-lines_chunks s n (suc k) ∙ sym (ap (λ (t : List ℕ). flat_map record_line (first_chunks 5 n t)) (drop-drop 5 (k * 5) s ∙ ap (λ (m : ℕ). drop m s) next)))
+
+-- how many records of five octets stand at the front of a buffer
+pub length_of_fives : (n : ℕ) (b : List ℕ) → 5 * n ≤ length b → length (take (5 * n) b) / 5 ≡ n
+length_of_fives n b room = ap (λ (m : ℕ). m / 5) (length-take-le (5 * n) b room) ∙ (omega arith)
 
 -- what is printed for a port, by its list or the reason that there is none
 abbrev printed : ℕ → Result (List Gate) PlanFault → List ℕ
@@ -87,27 +101,3 @@ pub port-texts-next : (w : Wires) (m : Model) (n q : ℕ) → q < n → port_tex
 port-texts-next w m n q less =
     let left : n - q ≡ suc (n - (q + 1)) = omega arith in
     ap (λ (k : ℕ). port_texts w m k q) left ∙ ap (λ (k : ℕ). port_text w m q ++ port_texts w m (n - (q + 1)) k) (sym (add-one q))
-
--- past the last port nothing is left
-pub port-texts-last : (w : Wires) (m : Model) (n q : ℕ) → n ≤ q → port_texts w m (n - q) q ≡ []
-port-texts-last w m n q over = let none : n - q ≡ 0 = omega arith in ap (λ (k : ℕ). port_texts w m k q) none
-
--- so do they after a set-up
-lists_alike : (w : Wires) (m m' : Model) → Alike m m' → (told : List (Result Reply PlanFault)) → lists_after w m told ≡ lists_after w m' told
-lists_alike w m m' alike [] = refl
-lists_alike w m m' alike (Err e ∷ told) = refl
-lists_alike w m m' alike (Ok r ∷ told) = port-texts_alike w m m' alike w.meaning.ports 0
-
--- what is printed of a plan that calls have left is what is printed of what they leave
-pub lists-performed : (w w' : Wires) (m : Model) (told : List (Result Reply PlanFault)) (cs : List Call) → w ≡ w' → Alike m (after w' empty cs) → told ≡ replies w' empty 0 cs →
-    lists_after w m told ≡ lists_after w' (after w' empty cs) (replies w' empty 0 cs)
-lists-performed w w' m told cs same alike is = (λ i. lists_after (same i) m (is i)) ∙ lists_alike w' m (after w' empty cs) alike (replies w' empty 0 cs)
-
--- the gate lists after the calls of an input, by its octets
-pub lists_are : (s : List ℕ) (x : Input) → Parts s x → (filled : Ethernet) → Coded x.codes.now filled →
-    lists_after (wires 1522 (ethernet_meaning filled)) (after (wires 1522 (ethernet_meaning filled)) empty (calls x.cycle x.ports x.flows))
-    (replies (wires 1522 (ethernet_meaning filled)) empty 0 (calls x.cycle x.ports x.flows))
-    ≡ planned_lists (coded (rate_codes s)) s
-lists_are s x parts filled is =
-    let w = wires 1522 (ethernet_meaning filled) in
-    (λ i. lists_after w (after_is s x parts w i) (answers_are s x parts w i)) ∙ (λ i. planned_lists (wires_are s x parts filled is i) s)

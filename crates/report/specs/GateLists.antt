@@ -1,14 +1,12 @@
 -- The gate lists of an input: for each port a heading, then each gate record readably and as octets; or one line for a refusal before them.
 -- Assumes nothing.
-use Rattle.std.specs.Prelude.{ℕ, zero, suc, ◌+◌, ◌*◌, ◌/◌, ◌%◌, cond, List, [], ◌∷◌, ◌++◌, take, drop, Ok, Err, codes, decimal, Result, nat_lt, slice_index}
-use Rattle.fault.specs.declared.kinds.PlanFault.{PlanFault}
+use Rattle.std.specs.Prelude.{ℕ, zero, suc, ◌+◌, ◌*◌, ◌/◌, ◌%◌, cond, List, [], ◌∷◌, ◌++◌, take, drop, Ok, Err, codes, decimal, nat_lt, slice_index}
 use Rattle.sheet.specs.Fields.{number}
-use Rattle.plan.specs.declared.call.Reply.{Reply}
 use Rattle.plan.specs.Calls.{Wires, Model, empty}
 use Rattle.plan.specs.GateOctets.{gate_octets}
 use Rattle.plan.specs.Steps.{list_of, gates_answer, after}
 use Rattle.report.specs.Inputs.{cycle, port_sheet, flow_sheet, calls}
-use Rattle.report.specs.Listings.{refused_line, at, answers, printed}
+use Rattle.report.specs.Listings.{refused_line, at, printed}
 
 -- a hexadecimal digit
 abbrev pub digit : ℕ → ℕ
@@ -49,16 +47,6 @@ abbrev pub port_texts : Wires → Model → ℕ → ℕ → List ℕ
 port_texts w m zero q = []
 port_texts w m (suc n) q = port_text w m q ++ port_texts w m n (suc q)
 
--- what is printed after a set-up with this answer, of a plan that holds m
-abbrev pub lists_after : Wires → Model → List (Result Reply PlanFault) → List ℕ
-lists_after w m [] = []
-lists_after w m (Err e ∷ rest) = refused_line e
-lists_after w m (Ok _ ∷ rest) = port_texts w m w.meaning.ports 0
-
--- the gate lists after the calls of an input
-abbrev pub planned_lists : Wires → List ℕ → List ℕ
-planned_lists w s = lists_after w (after w empty (calls (cycle s) (at (port_sheet s)) (at (flow_sheet s)))) (answers w s)
-
--- the gate lists: the refusal of the set-up, or the list of each port
+-- the gate lists: a refusal before any offer, or the list of each port of the plan that the calls of the input leave
 abbrev pub gate_lists : List ℕ → List ℕ
-gate_lists s = printed (λ w. planned_lists w s) s
+gate_lists s = printed (λ w _. port_texts w (after w empty (calls (cycle s) (at (port_sheet s)) (at (flow_sheet s)))) w.meaning.ports 0) s

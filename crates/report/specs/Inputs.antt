@@ -1,11 +1,10 @@
 -- The input of a listing: C in 4 octets, n in one, n rate codes of one octet, n port records of 8 octets, then flow records of 21.
 -- Assumes nothing.
-use Rattle.std.specs.Prelude.{◌≡◌, ℕ, zero, suc, ◌+◌, ◌*◌, ◌/◌, ◌≤◌, List, [], ◌∷◌, ◌++◌, length, take, drop, slice_index}
+use Rattle.std.specs.Prelude.{ℕ, zero, suc, ◌+◌, ◌*◌, ◌/◌, List, [], ◌∷◌, ◌++◌, length, take, drop, slice_index}
 use Rattle.std.specs.Borrow.{Bor}
 use Rattle.sheet.specs.Fields.{number}
 use Rattle.plan.specs.declared.call.Call.{Call}
 use Rattle.plan.specs.declared.call.Call.TheVariants.{SetUp, Offer, Flowspan}
-use Rattle.report.specs.declared.input.Input.{Input}
 
 -- the cycle C, most significant octet first
 abbrev pub cycle : List ℕ → ℕ
@@ -34,14 +33,6 @@ flow_sheet s = drop (head s) s
 -- how many flow records a sheet has, an unfinished last one counted
 abbrev pub records : List ℕ → ℕ
 records s = (length s + 20) / 21
-
--- the parts of an input that is long enough for all but its flow records
-pub record Parts (s : List ℕ) (x : Input) : Type 0 where
-  pub long : head s ≤ length s
-  pub cycle : x.cycle ≡ cycle s
-  pub codes : x.codes.now ≡ rate_codes s
-  pub ports : x.ports.now ≡ port_sheet s
-  pub flows : x.flows.now ≡ flow_sheet s
 
 -- offers of n records of a sheet, from record k on
 abbrev pub offers : Bor (List ℕ) → ℕ → ℕ → List Call

@@ -2,3 +2,4 @@ pub mod GateLists
 pub mod Inputs
 pub mod Lines
 pub mod Listings
+pub mod Runs

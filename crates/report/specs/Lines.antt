@@ -3,10 +3,16 @@
 use Rattle.std.specs.Prelude.{ℕ, Bool, cond, not, ◌&&◌, ◌||◌, List, length, Ok, Err, Result, nat_le, nat_lt}
 use Rattle.fault.specs.declared.kinds.PlanFault.{PlanFault}
 use Rattle.fault.specs.declared.kinds.PlanFault.TheVariants.{Filling}
+use Rattle.line.specs.declared.ethernet.Ethernet.{Ethernet}
 use Rattle.line.specs.Codes.{coded as meaning_of}
+use Rattle.line.specs.Kinds.{ethernet_meaning}
 use Rattle.planning.specs.Lists.{any}
 use Rattle.plan.specs.Calls.{Wires}
 use Rattle.plan.specs.Models.{wires}
+
+-- an Ethernet line, as the calls of a plan see it
+abbrev pub wired : Ethernet → Wires
+wired line = wires 1522 (ethernet_meaning line)
 
 -- an Ethernet line whose ports have these rate codes, as the calls of a plan see it
 abbrev pub coded : List ℕ → Wires

@@ -42,12 +42,6 @@ abbrev pub answer_lines : List ℕ → ℕ → List (Result Reply PlanFault) →
 answer_lines flows k [] = []
 answer_lines flows k (a ∷ rest) = answer_line (number_of flows k) a ++ answer_lines flows (suc k) rest
 
--- what is listed of the answers to a set-up and the calls after it
-abbrev pub listed : List ℕ → List (Result Reply PlanFault) → List ℕ
-listed flows [] = []
-listed flows (Err e ∷ rest) = refused_line e
-listed flows (Ok _ ∷ rest) = answer_lines flows 0 rest
-
 -- a reference to octets; where they lie does not matter
 abbrev pub at : List ℕ → Bor (List ℕ)
 at s = record { ref_ptr = (0, 0); now = s }
@@ -56,10 +50,16 @@ at s = record { ref_ptr = (0, 0); now = s }
 abbrev pub answers : Wires → List ℕ → List (Result Reply PlanFault)
 answers w s = replies w empty 0 (calls (cycle s) (at (port_sheet s)) (at (flow_sheet s)))
 
--- what is printed of an input, by what is printed of it on its line: refusal 1 where it is too short, or the refusal of the filling
-abbrev pub printed : (Wires → List ℕ) → List ℕ → List ℕ
-printed text s = cond (nat_lt (length s) (head s)) (codes "X 1\n") (elim (line (rate_codes s)) [ Err e ↦ refused_line e | Ok w ↦ text w ])
+-- what is printed of the answers to a set-up and the calls after it: its refusal, or a text of the answers after it
+abbrev pub set_up : (List (Result Reply PlanFault) → List ℕ) → List (Result Reply PlanFault) → List ℕ
+set_up text [] = []
+set_up text (Err e ∷ rest) = refused_line e
+set_up text (Ok _ ∷ rest) = text rest
 
--- the listing: the refusal of the set-up, or the answers to the offers and the flowspan
+-- what is printed of an input: refusal 1 where it is too short, the refusal of the filling or of the set-up, or a text for its line and the answers after the set-up's
+abbrev pub printed : (Wires → List (Result Reply PlanFault) → List ℕ) → List ℕ → List ℕ
+printed text s = cond (nat_lt (length s) (head s)) (codes "X 1\n") (elim (line (rate_codes s)) [ Err e ↦ refused_line e | Ok w ↦ set_up (text w) (answers w s) ])
+
+-- the listing: a refusal before any offer, or the answers to the offers and the flowspan
 abbrev pub listing : List ℕ → List ℕ
-listing s = printed (λ w. listed (flow_sheet s) (answers w s)) s
+listing s = printed (λ w. answer_lines (flow_sheet s) 0) s

@@ -1,11 +1,12 @@
-// What is printed of an input: the listing of its flows, and the gate lists of its ports.
+// What is printed of an input: the listing of its flows, and the gate lists of its ports; and the program that prints it.
 #![tactic(auto)]
 
-mod calls;
 mod gates;
-mod hex;
 mod input;
 mod printed;
+mod program;
+mod run;
 mod text;
 
 pub use printed::{gate_lists, listing};
+pub use program::print_text;

@@ -1,33 +1,38 @@
--- The gate lists by their cases: too short, no line, or the lists.
-use Rattle.std.proofs.Common.{ap, ◌∙◌}
+-- The gate lists by their cases: a refusal, or the list of each port.
+use Rattle.std.proofs.Common.{ℕ, List, Result, string_bytes, ◌∙◌}
 use Rattle.std.proofs.lemmas.Result.{IfOk-weaker}
-use Rattle.report.specs.Listings.{refused_line}
-use Rattle.report.proofs.GateLists.{lists_are}
-use Rattle.report.proofs.Listings.{printed_short, printed-refused, printed_planned}
+use Rattle.fault.specs.declared.kinds.PlanFault.{PlanFault}
+use Rattle.plan.specs.declared.call.Reply.{Reply}
+use Rattle.plan.specs.Calls.{Wires, empty}
+use Rattle.plan.specs.Models.{model}
+use Rattle.plan.specs.Steps.{after}
+use Rattle.report.specs.GateLists.{port_texts}
+use Rattle.report.specs.Inputs.{cycle, port_sheet, flow_sheet, calls}
+use Rattle.report.specs.Listings.{at}
+use Rattle.report.specs.Lines.{wired}
+use Rattle.report.proofs.GateLists.{port-texts_alike}
+use Rattle.report.proofs.Runs.{stop_line}
 use Rattle.report.proofs.printed.gate_lists.Goals as goal
 
-pub returns-in_default : goal.returns-in_default
-returns-in_default c = record { made = IfOk-weaker c.format.result _ _ (λ t e. e ∙ printed_short _ c.args.octets.now c.in_default.ensures.cases) c.format.ensures.ok }
-
-pub returns-in-Err : goal.returns-in-Err
-returns-in-Err c =
-    let filled = c.in-Err.ensures.filled in
-    record {
-      made =
-          IfOk-weaker c.refused_line.result _ _
-          (λ t e. e ∙ ap refused_line filled.1 ∙ printed-refused c.args.octets.now c.in-Some.input c.in-Some.ensures.cases _ filled.0)
-          c.refused_line.ensures.line;
-    }
+-- what is printed on a line
+abbrev lists : List ℕ → Wires → List (Result Reply PlanFault) → List ℕ
+lists s w told = port_texts w (after w empty (calls (cycle s) (at (port_sheet s)) (at (flow_sheet s)))) w.meaning.ports 0
 
 pub returns-in-Ok : goal.returns-in-Ok
 returns-in-Ok c =
     let s = c.args.octets.now in
-    let x = c.in-Some.input in
-    let parts = c.in-Some.ensures.cases in
-    let filled = c.in-Ok.ensures.filled in
+    let run = c.in-Ok.run' in
+    let ran = c.in-Ok.ensures.cases in
+    let w = wired run.input.line in
+    let m = model run.done.plan.setup run.done.plan.rows in
     record {
       made =
-          IfOk-weaker c.planned_lists.result _ _
-          (λ t e. e ∙ lists_are s x parts c.fill.new.self filled.1 ∙ printed_planned s x parts _ filled.0)
-          c.planned_lists.ensures.made;
+          IfOk-weaker c.format.result _ _
+          (λ t e. e ∙ (λ i. port_texts (wired (ran.line i)) m (c.ports.ensures.value i) 0) ∙ port-texts_alike w m _ ran.holds w.meaning.ports 0 ∙ ran.printed (lists s))
+          c.format.ensures.ok;
     }
+
+pub returns-in-Err : goal.returns-in-Err
+returns-in-Err c =
+    let s = c.args.octets.now in
+    record { made = stop_line string_bytes s c.in-Err.stop c.line.result c.in-Err.ensures.cases c.line.ensures.memory c.line.ensures.refused (lists s) }
