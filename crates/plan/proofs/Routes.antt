@@ -1,4 +1,4 @@
--- The first misrouted and the first overlong hop, step by step.
+-- The first misrouted and the first overlong hop, by the position of the first that a test finds.
 -- Assumes nothing.
 use Rattle.std.proofs.Common.{◌≡◌, ℕ, zero, suc, ◌+◌, ◌<◌, ◌≤◌, Bool, true, false, cond, ◌||◌, eqb, ltb, leb, List, [], ◌∷◌, map, position, reverse, length, get_or, take, drop, Some, None, sym, refl, ap, ◌∙◌, subst, add-one, arith, length-take}
 use mathlib.Core.List.{reverse_aux}

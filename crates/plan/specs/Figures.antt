@@ -10,8 +10,8 @@ use Rattle.plan.specs.declared.figures.Figures.{Figures}
 use Rattle.plan.specs.Calls.{port}
 use Rattle.plan.specs.Ports as stored
 
--- the figures of port records: their number, the ports of the first 32, a greatest best-effort length, which is above a
--- number where some length is, and delays within their limits
+-- the figures of port records: their number, the ports of the first 32, their greatest best-effort length, which is above
+-- a number exactly where one of them is, and delays within their limits
 pub record Figured (xs : List PortRecord) (f : Figures) : Type 0 where
   pub count : f.count ≡ length xs
   pub long : length f.ports ≡ 32

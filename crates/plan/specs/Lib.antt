@@ -1,6 +1,5 @@
 pub mod Alike
 pub mod Calls
-pub mod Views
 pub mod Figures
 pub mod GateLists
 pub mod GateOctets
@@ -16,3 +15,4 @@ pub mod Rows
 pub mod Setups
 pub mod Steps
 pub mod Timings
+pub mod Views
