@@ -1,6 +1,6 @@
 // The row of an offered flow, and its start beside the held ones.
 ghost use Rattle.std.specs.Prelude.{◌≡◌, Some, Ok, Err};
-ghost use Rattle.planning.specs.Offers.{placed, unfit, flow as offered_flow};
+ghost use Rattle.planning.specs.Offers.{placed, unfit};
 ghost use Rattle.plan.specs.Calls.{chosen, offered};
 ghost use Rattle.plan.specs.Offers.{Limited, Made};
 ghost use Rattle.plan.specs.Rows.{flow as row_flow, flows};
