@@ -1,7 +1,6 @@
 // Whether a flow fits beside the held ones, and how far it has to move.
-ghost use Rattle.std.specs.Prelude.{◌≡◌, ℕ, ◌+◌, ◌<◌, ◌≤◌, slice_index_or};
-ghost use Rattle.planning.specs.Lists.{any};
-ghost use Rattle.planning.specs.Overlaps.{meets, overlaps, fits as fitting, earliest as first_fitting};
+ghost use Rattle.std.specs.Prelude.{◌≡◌, ◌+◌, ◌<◌};
+ghost use Rattle.planning.specs.Overlaps.{overlaps, fits as fitting, earliest as first_fitting};
 ghost use Rattle.network.specs.Overlap.{starting};
 ghost use Rattle.plan.specs.Hops.{Within};
 ghost use Rattle.plan.specs.Rows.{flow, flows, hop};
@@ -38,9 +37,7 @@ impl Row {
         }
         Clearance::Clear
     }
-}
 
-impl Row {
     // Past this row, from start s on: the first start that its flow does not take, where one is below the period.
     fn past(&self, new: &Row, s: u32) -> Option<u32>
         requires below { s < new.now.period }

@@ -1,5 +1,5 @@
 // The flowspan of rows: the greatest start + total time among their flows.
-ghost use Rattle.std.specs.Prelude.{◌≡◌, ℕ, ◌<◌, ◌≤◌, slice_index_or};
+ghost use Rattle.std.specs.Prelude.{◌≡◌, ◌≤◌, slice_index_or};
 ghost use Rattle.line.specs.Meaning.{Meaning};
 ghost use Rattle.network.specs.Flows.{total as total_time};
 ghost use Rattle.planning.specs.Offers.{flowspan as greatest_end};

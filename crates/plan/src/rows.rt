@@ -1,5 +1,5 @@
 // The rows of a plan: which one holds a number, and which one is free.
-ghost use Rattle.std.specs.Prelude.{◌≡◌, ℕ, ◌<◌, true, false, [], length, MatchOption, slice_index_or};
+ghost use Rattle.std.specs.Prelude.{◌≡◌, ℕ, ◌<◌, false, [], length, MatchOption, slice_index_or};
 ghost use Rattle.planning.specs.Offers.{held};
 ghost use Rattle.plan.specs.Rows.{flows, none, Holds, IsFree};
 
