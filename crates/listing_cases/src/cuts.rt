@@ -1,5 +1,6 @@
 // Inputs that are cut.
-use crate::inputs::{PORT, check_listing, flow, input};
+use crate::inputs::{PORT, check_listing, input};
+use sheet::FlowRecord;
 use std::test::Fail;
 
 // An input of one port and two flows of 864 ns: the records begin at octets 6, 14 and 35, and end at 56.
@@ -8,8 +9,8 @@ use std::test::Fail;
 fn at_every_octet(rt: HostRuntime) -> Result<(), Fail> {
     let heap = rt.alloc();
     let flows = [
-        flow(7, 100, 500_000, 20_000, &[0]),
-        flow(8, 100, 500_000, 20_000, &[0]),
+        FlowRecord::new(7, 100, 500_000, 20_000, &[0]),
+        FlowRecord::new(8, 100, 500_000, 20_000, &[0]),
     ];
     let octets = input(heap, 1_000_000, &[3], &PORT, &flows)?;
     assert!(rt; octets.len() == 56);

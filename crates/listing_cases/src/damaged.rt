@@ -1,5 +1,6 @@
 // Flow records that are refused 2 or 3. Their number is not read, so the line has 0.
-use crate::inputs::{PORT, check_listing, flow, input};
+use crate::inputs::{PORT, check_listing, input};
+use sheet::FlowRecord;
 use std::test::Fail;
 
 // The first 16 octets and the last 5 of a record, and its refusal.
@@ -94,7 +95,7 @@ const CASES: [Case; 13] = [
 #[test]
 fn beside_a_held_flow(rt: HostRuntime) -> Result<(), Fail> {
     let heap = rt.alloc();
-    let held = flow(7, 100, 500_000, 20_000, &[0, 1]);
+    let held = FlowRecord::new(7, 100, 500_000, 20_000, &[0, 1]);
     for case in &CASES {
         let mut octets = input(heap, 1_000_000, &[3, 3], &PORT, &[held])?;
         octets.extend_from_slice(&case.high.to_be_bytes())?;

@@ -1,7 +1,7 @@
 // The gate lists of an input.
-use crate::inputs::{PORT, at, flow, input};
+use crate::inputs::{PORT, at, input};
 use report::gate_lists;
-use sheet::PortRecord;
+use sheet::{FlowRecord, PortRecord};
 use std::alloc::Global;
 use std::process::Abort;
 use std::test::Fail;
@@ -27,7 +27,7 @@ fn one_state(rt: HostRuntime) -> Result<(), Fail> {
         57_600,
         &[1],
         &SHORT,
-        &[flow(1, 64, 57_600, 60_000, &[0])],
+        &[FlowRecord::new(1, 64, 57_600, 60_000, &[0])],
     )?;
     let text = "port 0: 1 gate records\n  80 for 57600 ns: 80 00 00 E1 00\n";
     check_lists(&rt, heap, &octets, text)?;
@@ -36,7 +36,7 @@ fn one_state(rt: HostRuntime) -> Result<(), Fail> {
         57_600,
         &[1],
         &SHORT,
-        &[flow(1, 64, 57_599, 60_000, &[0])],
+        &[FlowRecord::new(1, 64, 57_599, 60_000, &[0])],
     )?;
     let text = "port 0: 1 gate records\n  7F for 57600 ns: 7F 00 00 E1 00\n";
     check_lists(&rt, heap, &octets, text)?;
@@ -49,7 +49,7 @@ fn one_state(rt: HostRuntime) -> Result<(), Fail> {
 #[test]
 fn a_span_crosses_the_cycle(rt: HostRuntime) -> Result<(), Fail> {
     let heap = rt.alloc();
-    let flows = [at(90_000, flow(1, 1_000, 100_000, 20_000, &[0, 1]))];
+    let flows = [at(90_000, FlowRecord::new(1, 1_000, 100_000, 20_000, &[0, 1]))];
     let octets = input(heap, 100_000, &[3, 3], &SHORT, &flows)?;
     let text = "\
 port 0: 4 gate records
@@ -69,7 +69,7 @@ port 1: 4 gate records
 #[test]
 fn refused(rt: HostRuntime) -> Result<(), Fail> {
     let heap = rt.alloc();
-    let flows = [flow(1, 64, 1_000, 20_000, &[0])];
+    let flows = [FlowRecord::new(1, 64, 1_000, 20_000, &[0])];
     let wrong_code = input(heap, 1_000, &[4], &PORT, &flows)?;
     let short_cycle = input(heap, 999, &[3], &PORT, &flows)?;
     let table: [(&[u8], &str); 7] = [

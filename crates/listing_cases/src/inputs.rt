@@ -1,9 +1,8 @@
 // Inputs made for the tests, and the check of what is listed of them.
-ghost use Rattle.std.specs.Prelude.{◌≡◌, IfOk, vec_len};
-ghost use Rattle.sheet.specs.declared.flow.Start.TheVariants.{Chosen, Free};
+ghost use Rattle.std.specs.Prelude.{◌≡◌, Some, IfOk, vec_len};
 
 use report::listing;
-use sheet::{FlowRecord, PortRecord, RecordKind, Start};
+use sheet::{FlowRecord, PortRecord, RecordKind};
 use std::alloc::{AllocError, Global};
 use std::process::Abort;
 use std::test::Fail;
@@ -15,40 +14,13 @@ pub const PORT: PortRecord = PortRecord {
     best_effort: 1_522,
 };
 
-// A flow of a number, with no start chosen.
-pub fn flow(number: u16, length: u16, period: u32, deadline: u32, route: &[u8]) -> FlowRecord
-    ensures number { result.number ≡ number }
-    ensures free { result.start ≡ Free }
-{
-    let mut ports = [0; 8];
-    for (k, port) in route.iter().enumerate() {
-        if k < 8 {
-            ports[k] = *port;
-        }
-    }
-    let hops = if route.len() < 9 {
-        route.len() as u8
-    } else {
-        9
-    };
-    FlowRecord {
-        number,
-        length,
-        period,
-        deadline,
-        start: Start::Free,
-        hops,
-        ports,
-    }
-}
-
 // The same flow with a chosen start.
 pub fn at(start: u32, flow: FlowRecord) -> FlowRecord
     ensures number { result.number ≡ flow.number }
-    ensures chosen { result.start ≡ Chosen start }
+    ensures chosen { result.start ≡ Some start }
 {
     FlowRecord {
-        start: Start::Chosen(start),
+        start: Some(start),
         ..flow
     }
 }

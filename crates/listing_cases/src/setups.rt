@@ -1,5 +1,6 @@
 // Refused fillings and set-ups.
-use crate::inputs::{PORT, begun, check_flows, check_listing, flow, input};
+use crate::inputs::{PORT, begun, check_flows, check_listing, input};
+use sheet::FlowRecord;
 use std::test::Fail;
 
 // A port record that may stand: 100 × 2^47 + 1,000 × 2^27 + 1,522 × 2^13.
@@ -189,6 +190,6 @@ fn numbers_of_ports(rt: HostRuntime) -> Result<(), Fail> {
     assert_eq!(rt; octets.pop(), Some(0));
     check_listing(&rt, heap, &octets, "X 1\n")?;
     // a refused set-up lists no flow
-    let good = flow(7, 64, 999, 20_000, &[0]);
+    let good = FlowRecord::new(7, 64, 999, 20_000, &[0]);
     check_flows(&rt, heap, 999, &[3], &[good], "X 5\n")
 }

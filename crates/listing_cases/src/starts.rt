@@ -1,14 +1,15 @@
 // Spans on every repetition, across the edges of the period and of the cycle.
-use crate::inputs::{at, check_flows, flow};
+use crate::inputs::{at, check_flows};
+use sheet::FlowRecord;
 use std::test::Fail;
 
 // The worked case: flow 7 holds port 1 from 1,964 to 2,828, and any earlier start of flow 9 meets it.
 #[test]
 fn worked(rt: HostRuntime) -> Result<(), Fail> {
     let flows = [
-        flow(7, 100, 500_000, 20_000, &[0, 1]),
-        flow(9, 1_000, 1_000_000, 20_000, &[1]),
-        flow(11, 64, 300_000, 20_000, &[0]),
+        FlowRecord::new(7, 100, 500_000, 20_000, &[0, 1]),
+        FlowRecord::new(9, 1_000, 1_000_000, 20_000, &[1]),
+        FlowRecord::new(11, 64, 300_000, 20_000, &[0]),
     ];
     let text = "F 7 0\nF 9 2828\nR 11 9\nS 10992\n";
     check_flows(&rt, rt.alloc(), 1_000_000, &[3, 3], &flows, text)
@@ -20,17 +21,17 @@ fn worked(rt: HostRuntime) -> Result<(), Fail> {
 #[test]
 fn three_rates(rt: HostRuntime) -> Result<(), Fail> {
     let flows = [
-        flow(1, 64, 1_000_000, 66_235, &[0, 1, 2]),
-        flow(1, 64, 1_000_000, 66_236, &[0, 1, 2]),
-        flow(2, 64, 1_000_000, 100_000, &[0]),
-        at(52_941, flow(3, 64, 1_000_000, 100_000, &[1])),
-        at(52_940, flow(3, 64, 1_000_000, 100_000, &[1])),
-        at(64_459, flow(4, 64, 1_000_000, 100_000, &[1])),
-        at(64_460, flow(4, 64, 1_000_000, 100_000, &[1])),
-        at(64_985, flow(5, 64, 1_000_000, 100_000, &[2])),
-        at(64_984, flow(5, 64, 1_000_000, 100_000, &[2])),
-        at(66_135, flow(6, 64, 1_000_000, 100_000, &[2])),
-        at(66_136, flow(6, 64, 1_000_000, 100_000, &[2])),
+        FlowRecord::new(1, 64, 1_000_000, 66_235, &[0, 1, 2]),
+        FlowRecord::new(1, 64, 1_000_000, 66_236, &[0, 1, 2]),
+        FlowRecord::new(2, 64, 1_000_000, 100_000, &[0]),
+        at(52_941, FlowRecord::new(3, 64, 1_000_000, 100_000, &[1])),
+        at(52_940, FlowRecord::new(3, 64, 1_000_000, 100_000, &[1])),
+        at(64_459, FlowRecord::new(4, 64, 1_000_000, 100_000, &[1])),
+        at(64_460, FlowRecord::new(4, 64, 1_000_000, 100_000, &[1])),
+        at(64_985, FlowRecord::new(5, 64, 1_000_000, 100_000, &[2])),
+        at(64_984, FlowRecord::new(5, 64, 1_000_000, 100_000, &[2])),
+        at(66_135, FlowRecord::new(6, 64, 1_000_000, 100_000, &[2])),
+        at(66_136, FlowRecord::new(6, 64, 1_000_000, 100_000, &[2])),
     ];
     let text = "\
 R 1 13
@@ -54,10 +55,10 @@ S 115300
 #[test]
 fn a_held_hop_crosses_the_cycle(rt: HostRuntime) -> Result<(), Fail> {
     let flows = [
-        at(90_000, flow(1, 1_000, 100_000, 20_000, &[0, 1])),
-        flow(2, 64, 100_000, 20_000, &[1]),
-        at(98_589, flow(3, 64, 100_000, 20_000, &[1])),
-        at(98_588, flow(3, 64, 100_000, 20_000, &[1])),
+        at(90_000, FlowRecord::new(1, 1_000, 100_000, 20_000, &[0, 1])),
+        FlowRecord::new(2, 64, 100_000, 20_000, &[1]),
+        at(98_589, FlowRecord::new(3, 64, 100_000, 20_000, &[1])),
+        at(98_588, FlowRecord::new(3, 64, 100_000, 20_000, &[1])),
     ];
     let text = "F 1 90000\nF 2 7228\nR 3 15\nF 3 98588\nS 107328\n";
     check_flows(&rt, rt.alloc(), 100_000, &[3, 3], &flows, text)
@@ -69,12 +70,12 @@ fn a_held_hop_crosses_the_cycle(rt: HostRuntime) -> Result<(), Fail> {
 #[test]
 fn a_held_hop_in_the_next_period(rt: HostRuntime) -> Result<(), Fail> {
     let flows = [
-        at(45_000, flow(1, 1_000, 50_000, 20_000, &[0, 1])),
-        at(4_164, flow(2, 64, 100_000, 20_000, &[1])),
-        at(12_227, flow(2, 64, 100_000, 20_000, &[1])),
-        at(3_588, flow(2, 64, 100_000, 20_000, &[1])),
-        flow(3, 64, 100_000, 20_000, &[1]),
-        flow(4, 64, 100_000, 20_000, &[0]),
+        at(45_000, FlowRecord::new(1, 1_000, 50_000, 20_000, &[0, 1])),
+        at(4_164, FlowRecord::new(2, 64, 100_000, 20_000, &[1])),
+        at(12_227, FlowRecord::new(2, 64, 100_000, 20_000, &[1])),
+        at(3_588, FlowRecord::new(2, 64, 100_000, 20_000, &[1])),
+        FlowRecord::new(3, 64, 100_000, 20_000, &[1]),
+        FlowRecord::new(4, 64, 100_000, 20_000, &[0]),
     ];
     let text = "F 1 45000\nR 2 15\nR 2 15\nF 2 3588\nF 3 0\nF 4 3064\nS 62328\n";
     check_flows(&rt, rt.alloc(), 100_000, &[3, 3], &flows, text)
@@ -85,10 +86,10 @@ fn a_held_hop_in_the_next_period(rt: HostRuntime) -> Result<(), Fail> {
 #[test]
 fn an_offered_hop_crosses_the_cycle(rt: HostRuntime) -> Result<(), Fail> {
     let flows = [
-        flow(1, 1_000, 100_000, 20_000, &[1]),
-        at(90_000, flow(2, 1_000, 100_000, 20_000, &[0, 1])),
-        at(82_773, flow(2, 1_000, 100_000, 20_000, &[0, 1])),
-        at(82_772, flow(2, 1_000, 100_000, 20_000, &[0, 1])),
+        FlowRecord::new(1, 1_000, 100_000, 20_000, &[1]),
+        at(90_000, FlowRecord::new(2, 1_000, 100_000, 20_000, &[0, 1])),
+        at(82_773, FlowRecord::new(2, 1_000, 100_000, 20_000, &[0, 1])),
+        at(82_772, FlowRecord::new(2, 1_000, 100_000, 20_000, &[0, 1])),
     ];
     let text = "F 1 0\nR 2 15\nR 2 15\nF 2 82772\nS 100100\n";
     check_flows(&rt, rt.alloc(), 100_000, &[3, 3], &flows, text)
@@ -99,10 +100,10 @@ fn an_offered_hop_crosses_the_cycle(rt: HostRuntime) -> Result<(), Fail> {
 #[test]
 fn every_repetition_counts(rt: HostRuntime) -> Result<(), Fail> {
     let flows = [
-        flow(1, 100, 400_000, 20_000, &[0]),
-        at(200_000, flow(2, 100, 300_000, 20_000, &[0])),
-        at(200_864, flow(2, 100, 300_000, 20_000, &[0])),
-        flow(3, 100, 300_000, 20_000, &[0]),
+        FlowRecord::new(1, 100, 400_000, 20_000, &[0]),
+        at(200_000, FlowRecord::new(2, 100, 300_000, 20_000, &[0])),
+        at(200_864, FlowRecord::new(2, 100, 300_000, 20_000, &[0])),
+        FlowRecord::new(3, 100, 300_000, 20_000, &[0]),
     ];
     let text = "F 1 0\nR 2 15\nF 2 200864\nF 3 864\nS 201828\n";
     check_flows(&rt, rt.alloc(), 1_200_000, &[3], &flows, text)
@@ -114,10 +115,10 @@ fn every_repetition_counts(rt: HostRuntime) -> Result<(), Fail> {
 fn the_last_ports(rt: HostRuntime) -> Result<(), Fail> {
     let heap = rt.alloc();
     let flows = [
-        flow(1, 64, 1_000_000, 12_408, &[24, 25, 26, 27, 28, 29, 30, 31]),
-        at(11_731, flow(2, 64, 1_000_000, 676, &[31])),
-        at(11_156, flow(2, 64, 1_000_000, 676, &[31])),
-        flow(3, 64, 1_000_000, 676, &[24]),
+        FlowRecord::new(1, 64, 1_000_000, 12_408, &[24, 25, 26, 27, 28, 29, 30, 31]),
+        at(11_731, FlowRecord::new(2, 64, 1_000_000, 676, &[31])),
+        at(11_156, FlowRecord::new(2, 64, 1_000_000, 676, &[31])),
+        FlowRecord::new(3, 64, 1_000_000, 676, &[24]),
     ];
     let text = "F 1 0\nR 2 15\nF 2 11156\nF 3 576\nS 12408\n";
     check_flows(&rt, heap, 1_000_000, &[3; 32], &flows, text)?;

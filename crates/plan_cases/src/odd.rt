@@ -52,7 +52,7 @@ impl Line for Odd {
     }
 
     fn wire_time(&self, port: u8, length: u16) -> u32 {
-        if port >= 2 || length < 64 || length > Self::LARGEST {
+        if !self.carries(port, length) {
             return 0;
         }
         u32::from(port) * 132 + 101

@@ -52,6 +52,11 @@ hop_count route = min (length route) 9
 abbrev pub port_slots : List ℕ → List ℕ
 port_slots route = map (slice_index route) (range_with_len 0 8)
 
+-- the record of a flow of number n, length l, period T and deadline D over a route, with no start chosen
+abbrev pub free_flow : ℕ → ℕ → ℕ → ℕ → List ℕ → FlowRecord
+free_flow n l T D route =
+    record { number = n; length = l; period = T; deadline = D; start = None; hops = hop_count route; ports = port_slots route }
+
 -- what a port slot holds before the hop count
 abbrev pub used : FlowRecord → ℕ → ℕ
 used x i = cond (nat_lt i x.hops) (slice_index x.ports i) 0

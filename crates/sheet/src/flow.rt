@@ -1,8 +1,8 @@
 // The flow record: a flow's number, frame length, period, deadline, start and route.
-ghost use Rattle.std.specs.Prelude.{◌≡◌, ◌+◌, ◌*◌, ◌^◌, ◌<◌, length, take, None};
+ghost use Rattle.std.specs.Prelude.{◌≡◌, ◌+◌, ◌*◌, ◌^◌, ◌<◌, length, take};
 ghost use Rattle.sheet.specs.Fields.{field as field_of, packed, Fit};
 ghost use Rattle.sheet.specs.Limits.{from_to, zero_at};
-ghost use Rattle.sheet.specs.Flows.{hop_count, port_slots, flow_of, used as used_slot, unused as unused_slot, flow_zeros, flow_limits, head_parts, route_parts, read_flow, judge_flow, written_flow};
+ghost use Rattle.sheet.specs.Flows.{free_flow, flow_of, used as used_slot, unused as unused_slot, flow_zeros, flow_limits, head_parts, route_parts, read_flow, judge_flow, written_flow};
 ghost use Rattle.sheet.specs.FlowsLemmas.{flow-readback, flow-writable, flow-rewritten};
 ghost use Rattle.std.proofs.Common.{rules};
 
@@ -35,13 +35,7 @@ pub struct FlowRecord {
 impl FlowRecord {
     // A record with no start chosen. A route of more than eight ports has the hop count nine, which is refused.
     pub fn new(number: u16, length: u16, period: u32, deadline: u32, route: &[u8]) -> FlowRecord
-        ensures number { result.number ≡ number }
-        ensures length { result.length ≡ length }
-        ensures period { result.period ≡ period }
-        ensures deadline { result.deadline ≡ deadline }
-        ensures free { result.start ≡ None }
-        ensures hops { result.hops ≡ hop_count route.now }
-        ensures ports { result.ports ≡ port_slots route.now }
+        ensures value { result ≡ free_flow number length period deadline route.now }
     {
         FlowRecord {
             number,

@@ -7,7 +7,7 @@ ghost use Rattle.sheet.specs.Writings.{answered_sheet, put};
 ghost use Rattle.worked.specs.Case.{port as port_record, flows as flow_records};
 
 use fault::PlanFault;
-use sheet::{FlowRecord, PortRecord, RecordKind, Start, write_sheet};
+use sheet::{FlowRecord, PortRecord, RecordKind, write_sheet};
 
 // Two ports, with delays of 100 and 1,000 ns and best-effort frames of up to 1,522 octets.
 pub(crate) fn port_sheet(buffer: &mut [u8]) -> Result<usize, PlanFault>
@@ -27,41 +27,12 @@ pub(crate) fn flow_sheet(buffer: &mut [u8]) -> Result<usize, PlanFault>
     ensures value { result ≡ answered_sheet 84 (length buffer.old) (Ok tt) }
     ensures after { buffer.new ≡ put result 84 (written_sheet written_flow flow_records) buffer.old }
 {
-    let seven = FlowRecord {
-        number: 7,
-        length: 100,
-        period: 500_000,
-        deadline: 20_000,
-        start: Start::Free,
-        hops: 2,
-        ports: [0, 1, 0, 0, 0, 0, 0, 0],
-    };
-    let nine = FlowRecord {
-        number: 9,
-        length: 1_000,
-        period: 1_000_000,
-        deadline: 20_000,
-        start: Start::Free,
-        hops: 1,
-        ports: [1, 0, 0, 0, 0, 0, 0, 0],
-    };
-    let eleven = FlowRecord {
-        number: 11,
-        length: 64,
-        period: 300_000,
-        deadline: 20_000,
-        start: Start::Free,
-        hops: 1,
-        ports: [0; 8],
-    };
+    let seven = FlowRecord::new(7, 100, 500_000, 20_000, &[0, 1]);
+    let nine = FlowRecord::new(9, 1_000, 1_000_000, 20_000, &[1]);
+    let eleven = FlowRecord::new(11, 64, 300_000, 20_000, &[0]);
     let thirteen = FlowRecord {
-        number: 13,
-        length: 100,
-        period: 500_000,
-        deadline: 20_000,
-        start: Start::Chosen(10_891),
-        hops: 1,
-        ports: [1, 0, 0, 0, 0, 0, 0, 0],
+        start: Some(10_891),
+        ..FlowRecord::new(13, 100, 500_000, 20_000, &[1])
     };
     write_sheet(&[seven, nine, eleven, thirteen], buffer)
 }
