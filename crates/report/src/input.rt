@@ -29,7 +29,7 @@ impl<'a> TryFrom<&'a [u8]> for Input<'a> {
     fn try_from(octets: &'a [u8]) -> Result<Input<'a>, PlanFault> {
         let (begin, rest) = octets.split_first_chunk::<5>().ok_or(TOO_SHORT)?;
         let [a, b, c, d, count] = *begin;
-        let count = count as usize;
+        let count = usize::from(count);
         let (codes, rest) = rest.split_at_checked(count).ok_or(TOO_SHORT)?;
         let (ports, flows) = rest.split_at_checked(8 * count).ok_or(TOO_SHORT)?;
         let cycle = u32::from_be_bytes([a, b, c, d]);

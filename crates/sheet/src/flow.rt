@@ -78,7 +78,7 @@ impl FlowRecord {
         ensures value { result ≡ from_to (125 + 5 * slot) (used_slot self.now slot) 0 31 }
     {
         let port = if slot < u16::from(self.hops) {
-            self.ports[slot as usize]
+            self.ports[usize::from(slot)]
         } else {
             0
         };
@@ -94,7 +94,7 @@ impl FlowRecord {
         let port = if slot < u16::from(self.hops) {
             0
         } else {
-            self.ports[slot as usize]
+            self.ports[usize::from(slot)]
         };
         Limited::zero(125 + 5 * slot, u32::from(port))
     }

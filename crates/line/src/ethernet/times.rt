@@ -59,6 +59,6 @@ impl Line for Ethernet {
             return 0;
         }
         // the preamble and the start delimiter are 8 octets
-        (u32::from(length) + 8) * self.rates[port as usize].octet()
+        (u32::from(length) + 8) * self.rates[usize::from(port)].octet()
     }
 }

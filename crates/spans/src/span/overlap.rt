@@ -38,7 +38,7 @@ impl Spans {
         }
         let g = gcd(self.period, other.period);
         let r = distance(g, self.first, other.first);
-        if self.wire as u64 + other.wire as u64 > g as u64 {
+        if u64::from(self.wire) + u64::from(other.wire) > u64::from(g) {
             Clearance::Never
         } else if r < other.wire {
             Clearance::After(other.wire - r)

@@ -16,8 +16,8 @@ returns-then-self-eq0 c =
       | then-self-eq0-via-else-self-eq0+then-other-eq0 w ↦ omega arith
     ])
 
-pub returns-then-self-other : goal.returns-then-self-other
-returns-then-self-other c =
+pub returns-then-from : goal.returns-then-from
+returns-then-from c =
     let pair =
     pair_of c.args.self.now c.args.other.now c.gcd-g.result c.distance-r.result (omega arith)
     (omega arith)
