@@ -9,8 +9,8 @@ use Rattle.plan.specs.Models.{wires}
 
 -- an Ethernet line whose ports have these rate codes
 abbrev pub ethernet : List ℕ → Wires
-ethernet codes = wires ethernet_line.most (coded codes)
+ethernet codes = wires ethernet_line.LARGEST (coded codes)
 
 -- a cell line with N ports, cells of z octets and w ns for a cell
 abbrev pub cells : ℕ → ℕ → ℕ → Wires
-cells N z w = wires cell_line.most (celled N z w)
+cells N z w = wires cell_line.LARGEST (celled N z w)

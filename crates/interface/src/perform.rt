@@ -40,7 +40,7 @@ pub(crate) fn performed<L: Line + Drop>(
     answers: &mut [u8],
     buffer: &mut [u8],
 ) -> Result<usize, Unperformed>
-    ensures performs { Performs (wires L.most (L.meaning line)) calls.now answers.old buffer.old (came_to (returned_number result) answers.new buffer.new) }
+    ensures performs { Performs (wires L.LARGEST (L.meaning line)) calls.now answers.old buffer.old (came_to (returned_number result) answers.new buffer.new) }
     ensures few { IfOk result (λ count. count < 2 ^ 63) }
 {
     let count = call_count(calls)?;

@@ -7,13 +7,11 @@ pub trait Line {
     // The length of the largest frame, in octets.
     const LARGEST: u16;
 
-    ghost most: { ℕ };
+    // The same number for clauses: each line proves the two equal.
+    ghost LARGEST: { ℕ };
 
     // The number of ports, and a wire time in nanoseconds for each port and length.
     ghost meaning: { Self → Meaning };
-
-    fn longest() -> u16
-        ensures value { result ≡ most };
 
     fn ports(&self) -> u8
         ensures value { result ≡ (meaning self.now).ports }
@@ -21,19 +19,19 @@ pub trait Line {
 
     // Whether the port is there and takes a frame of this length.
     fn carries(&self, port: u8, length: u16) -> bool
-        ensures carried { IsTrue result ↔ ((port < (meaning self.now).ports) × (64 ≤ length) × (length ≤ most)) }
+        ensures carried { IsTrue result ↔ ((port < (meaning self.now).ports) × (64 ≤ length) × (length ≤ LARGEST)) }
         ensures same { self.exit.now ≡ self.entry.now }
     {
-        port < self.ports() && (64..=Self::longest()).contains(&length)
+        port < self.ports() && (64..=Self::LARGEST).contains(&length)
     }
 
     fn wire_time(&self, port: u8, length: u16) -> u32
         ensures value { result ≡ (meaning self.now).time port length }
         ensures same { self.exit.now ≡ self.entry.now };
 
-    ghost least: { 64 ≤ most };
+    ghost least: { 64 ≤ LARGEST };
 
-    ghost greatest: { most ≤ 9600 };
+    ghost greatest: { LARGEST ≤ 9600 };
 
     ghost some: { (x : Self) → 1 ≤ (meaning x).ports };
 
@@ -43,16 +41,16 @@ pub trait Line {
 
     ghost short: { (x : Self) (q l : ℕ) → l < 64 → (meaning x).time q l ≡ 0 };
 
-    ghost long: { (x : Self) (q l : ℕ) → most < l → (meaning x).time q l ≡ 0 };
+    ghost long: { (x : Self) (q l : ℕ) → LARGEST < l → (meaning x).time q l ≡ 0 };
 
-    ghost timed: { (x : Self) (q l : ℕ) → q < (meaning x).ports → 64 ≤ l → l ≤ most → 1 ≤ (meaning x).time q l };
+    ghost timed: { (x : Self) (q l : ℕ) → q < (meaning x).ports → 64 ≤ l → l ≤ LARGEST → 1 ≤ (meaning x).time q l };
 
     ghost bounded: { (x : Self) (q l : ℕ) → (meaning x).time q l ≤ 10000000 };
 
-    ghost longer: { (x : Self) (q l m : ℕ) → 64 ≤ l → l ≤ m → m ≤ most → (meaning x).time q l ≤ (meaning x).time q m };
+    ghost longer: { (x : Self) (q l m : ℕ) → 64 ≤ l → l ≤ m → m ≤ LARGEST → (meaning x).time q l ≤ (meaning x).time q m };
 }
 
 // The laws of the trait as the four rules in words.
 pub fn keeps_the_rules<L: Line>(line: &L)
-    ensures rules { Rules L.most (L.meaning line.now) }
+    ensures rules { Rules L.LARGEST (L.meaning line.now) }
 {}

@@ -17,7 +17,7 @@ struct Odd;
 impl Line for Odd {
     const LARGEST: u16 = 200;
 
-    ghost most = { 200 };
+    ghost LARGEST = { 200 };
 
     ghost meaning = { λ _. record { ports = 3; time = λ q l. carried 3 200 q l (7 * l + q) } };
 
@@ -40,10 +40,6 @@ impl Line for Odd {
     ghost bounded = { Prim.search rules };
 
     ghost longer = { Prim.search rules };
-
-    fn longest() -> u16 {
-        Self::LARGEST
-    }
 
     fn ports(&self) -> u8 {
         3

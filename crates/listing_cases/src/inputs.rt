@@ -38,7 +38,7 @@ pub fn begun(heap: Global, cycle: u32, ports: u8) -> Result<Vec<u8>, AllocError>
 pub fn add_records<K: RecordKind>(octets: &mut Vec<u8>, records: &[K]) -> Result<(), Fail> {
     let heap = *octets.allocator();
     for record in records {
-        let mut buffer = vec![in heap; 0; K::octet_count()]?;
+        let mut buffer = vec![in heap; 0; K::SIZE]?;
         record.write(&mut buffer)?;
         octets.extend_from_slice(&buffer)?;
     }

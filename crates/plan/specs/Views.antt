@@ -7,7 +7,7 @@ use Rattle.plan.specs.Models.{model, wires}
 
 -- the line of a plan
 abbrev pub wires_of : {L : _} {line : Ghosts L} → Plan L line → Wires
-wires_of {line} p = wires line.most (line.meaning p.line)
+wires_of {line} p = wires line.LARGEST (line.meaning p.line)
 
 -- what a plan holds
 abbrev pub held_by : {L : _} {line : Ghosts L} → Plan L line → Model

@@ -18,7 +18,7 @@ pub(crate) struct Network<'a, L: Line> {
 impl<L: Line> Network<'_, L> {
     // The times of an offer's route, or the first refusal that concerns its figures.
     pub(crate) fn judge(&self, offer: &Offer) -> Result<Timing, PlanFault>
-        ensures judged { Judged L.most (network (L.meaning self.now.line.now) self.now.setup.now) (offered offer.now.flow) result }
+        ensures judged { Judged L.LARGEST (network (L.meaning self.now.line.now) self.now.setup.now) (offered offer.now.flow) result }
     {
         let flow = &offer.flow;
         if !offer.regular(self.setup.cycle) {
@@ -27,7 +27,7 @@ impl<L: Line> Network<'_, L> {
         if let Some(hop) = offer.misrouted(self.line.ports()) {
             return Err(PlanFault::Route { hop });
         }
-        if flow.length > L::longest() {
+        if flow.length > L::LARGEST {
             return Err(PlanFault::Length);
         }
         let timing = self.timing(offer);

@@ -32,12 +32,12 @@ pub fn perform<L: Line>(
     calls: &[Call<'_>],
     buffer: &mut [u8],
 ) -> Result<Performed<L>, NoMemory<L>>
-    ensures answers { elim result [ Ok p ↦ p.answers.items ≡ replies (wires L.most (L.meaning line)) empty (length buffer.old) calls.now | Err _ ↦ Unit {0} ] }
+    ensures answers { elim result [ Ok p ↦ p.answers.items ≡ replies (wires L.LARGEST (L.meaning line)) empty (length buffer.old) calls.now | Err _ ↦ Unit {0} ] }
     ensures line { elim result [ Ok p ↦ p.plan.line ≡ line | Err e ↦ e.line ≡ line ] }
-    ensures holds { elim result [ Ok p ↦ Alike (held_by p.plan) (after (wires L.most (L.meaning line)) empty calls.now) | Err _ ↦ Unit {0} ] }
-    ensures buffer { elim result [ Ok _ ↦ buffer.new ≡ buffered (wires L.most (L.meaning line)) empty buffer.old calls.now | Err _ ↦ buffer.new ≡ buffer.old ] }
-    ensures assured { Assures (wires L.most (L.meaning line)) (after (wires L.most (L.meaning line)) empty calls.now) }
-    ensures lists { ListsFit (wires L.most (L.meaning line)) (after (wires L.most (L.meaning line)) empty calls.now) }
+    ensures holds { elim result [ Ok p ↦ Alike (held_by p.plan) (after (wires L.LARGEST (L.meaning line)) empty calls.now) | Err _ ↦ Unit {0} ] }
+    ensures buffer { elim result [ Ok _ ↦ buffer.new ≡ buffered (wires L.LARGEST (L.meaning line)) empty buffer.old calls.now | Err _ ↦ buffer.new ≡ buffer.old ] }
+    ensures assured { Assures (wires L.LARGEST (L.meaning line)) (after (wires L.LARGEST (L.meaning line)) empty calls.now) }
+    ensures lists { ListsFit (wires L.LARGEST (L.meaning line)) (after (wires L.LARGEST (L.meaning line)) empty calls.now) }
 {
     let Ok(mut answers) = Vec::with_capacity(heap, calls.len()) else {
         return Err(NoMemory { line });

@@ -38,7 +38,7 @@ impl Timing {
 impl<L: Line> Network<'_, L> {
     // The offsets and wire times on the route of an offer, and its total time.
     pub(crate) fn timing(&self, offer: &Offer) -> Timing
-        ensures times { Times L.most (network (L.meaning self.now.line.now) self.now.setup.now) (offered offer.now.flow) result }
+        ensures times { Times L.LARGEST (network (L.meaning self.now.line.now) self.now.setup.now) (offered offer.now.flow) result }
     {
         let mut hops = [Hop::default(); 8];
         let mut offset = 0;

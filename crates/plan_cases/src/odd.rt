@@ -17,7 +17,7 @@ pub struct Odd;
 impl Line for Odd {
     const LARGEST: u16 = 777;
 
-    ghost most = { 777 };
+    ghost LARGEST = { 777 };
 
     ghost meaning = { λ _. record { ports = 2; time = λ q l. carried 2 777 q l (q * 132 + 101) } };
 
@@ -42,10 +42,6 @@ impl Line for Odd {
     ghost longer = { λ x q l m least le most.
         carried_by_cases (λ n. n ≤ carried 2 777 q m (q * 132 + 101)) 2 777 q l (q * 132 + 101)
         (λ port _ _. rw (carried_within 2 777 q m (q * 132 + 101) port (omega arith) most) (omega arith)) (omega arith) };
-
-    fn longest() -> u16 {
-        Self::LARGEST
-    }
 
     fn ports(&self) -> u8 {
         2

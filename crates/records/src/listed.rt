@@ -15,9 +15,9 @@ fn add_records<K: RecordKind + fmt::Display + Drop>(
     sheet: &[u8],
 ) -> Result<Option<RecordFault>, AllocError>
     requires prints { (x : K) → IsSome (K.Display.output x) }
-    ensures made { IfOk result (λ fault. string_bytes lines.new ++ last_line fault ≡ string_bytes lines.old ++ listing_by K.RecordKind.long K.RecordKind.reading (λ x. unwrap_or (K.Display.output x) []) sheet.now) }
+    ensures made { IfOk result (λ fault. string_bytes lines.new ++ last_line fault ≡ string_bytes lines.old ++ listing_by K.RecordKind.SIZE K.RecordKind.reading (λ x. unwrap_or (K.Display.output x) []) sheet.now) }
 {
-    let count = sheet.len() / K::octet_count();
+    let count = sheet.len() / K::SIZE;
     for index in 0..count {
         match Reader::new(sheet, index).read::<K>() {
             Ok(record) => writeln!(lines, "{record}")?,
@@ -33,7 +33,7 @@ fn list_records<K: RecordKind + fmt::Display + Drop>(
     sheet: &[u8],
 ) -> Result<String, AllocError>
     requires prints { (x : K) → IsSome (K.Display.output x) }
-    ensures made { IfOk result (λ t. string_bytes t ≡ listing_by K.RecordKind.long K.RecordKind.reading (λ x. unwrap_or (K.Display.output x) []) sheet.now) }
+    ensures made { IfOk result (λ t. string_bytes t ≡ listing_by K.RecordKind.SIZE K.RecordKind.reading (λ x. unwrap_or (K.Display.output x) []) sheet.now) }
 {
     let mut lines = String::new(heap);
     if let Some(fault) = add_records::<K>(&mut lines, sheet)? {

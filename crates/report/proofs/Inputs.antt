@@ -44,8 +44,8 @@ module _ (s begin rest : List ℕ) (begin-is : begin ≡ take 5 s) (rest-is : re
       omega arith
 
 -- the number of records, as whole ones and what is left
-pub records_are : (s : List ℕ) (n z : ℕ) → n ≡ length s / z + min 1 (length s % z) → z ≡ 21 → n ≡ records s
-records_are s n z is size = is ∙ ap (λ (m : ℕ). length s / m + min 1 (length s % m)) size ∙ (omega arith)
+pub records_are : (s : List ℕ) (n : ℕ) → n ≡ length s / 21 + min 1 (length s % 21) → n ≡ records s
+records_are s n is = is ∙ (omega arith)
 
 -- the offers of n records, as a list made from their indices
 pub map-offer : (sheet : Bor (List ℕ)) (n k : ℕ) → map (Offer sheet) (range_with_len k n) ≡ offers sheet n k

@@ -55,7 +55,7 @@ impl<'a> Input<'a> {
             ports: self.ports,
         })?;
         let flows = self.flows;
-        let count = flows.len().div_ceil(FlowRecord::octet_count());
+        let count = flows.len().div_ceil(FlowRecord::SIZE);
         calls.extend((0..count).map(|index| Call::Offer { flows, index }))?;
         calls.push(Call::Flowspan)?;
         Ok(calls)

@@ -187,7 +187,7 @@ impl FlowRecord {
 impl RecordKind for FlowRecord {
     const SIZE: usize = 21;
 
-    ghost long = { 21 };
+    ghost SIZE = { 21 };
 
     ghost reading = { read_flow };
 
@@ -204,10 +204,6 @@ impl RecordKind for FlowRecord {
     ghost writable = { flow-writable };
 
     ghost rewritten = { flow-rewritten };
-
-    fn octet_count() -> usize {
-        Self::SIZE
-    }
 
     fn read(index: usize, octets: &[u8]) -> Result<FlowRecord, RecordFault> {
         let Ok(octets) = <&[u8; 21]>::try_from(octets) else {

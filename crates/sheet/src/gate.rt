@@ -59,7 +59,7 @@ pub struct GateRecord {
 impl RecordKind for GateRecord {
     const SIZE: usize = 5;
 
-    ghost long = { 5 };
+    ghost SIZE = { 5 };
 
     ghost reading = { read_gate };
 
@@ -76,10 +76,6 @@ impl RecordKind for GateRecord {
     ghost writable = { gate-writable };
 
     ghost rewritten = { gate-rewritten };
-
-    fn octet_count() -> usize {
-        Self::SIZE
-    }
 
     fn read(index: usize, octets: &[u8]) -> Result<GateRecord, RecordFault> {
         let [state, a, b, c, d] = octets else {

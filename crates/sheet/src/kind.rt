@@ -10,8 +10,8 @@ pub trait RecordKind: Sized {
     // The octets of a record.
     const SIZE: usize;
 
-    // The same number for clauses, which cannot name a constant of the kind.
-    ghost long: { ℕ };
+    // The same number for clauses: each kind proves the two equal.
+    ghost SIZE: { ℕ };
 
     // Record k from its octets.
     ghost reading: { ℕ → List ℕ → Result Self Refused };
@@ -21,9 +21,6 @@ pub trait RecordKind: Sized {
 
     // The octets of a record that may be written.
     ghost written: { Self → List ℕ };
-
-    fn octet_count() -> usize
-        ensures value { result ≡ long };
 
     // The record with this index in its sheet, from exactly its octets.
     fn read(index: usize, octets: &[u8]) -> Result<Self, RecordFault>
@@ -35,12 +32,12 @@ pub trait RecordKind: Sized {
 
     // Whether the record may be written to the buffer: it is judged first, and then the room.
     fn may_write(&self, buffer: &[u8]) -> Result<(), PlanFault>
-        ensures value { result ≡ answered long (length buffer.now) (judging 0 self.now) }
+        ensures value { result ≡ answered SIZE (length buffer.now) (judging 0 self.now) }
         ensures judged { OnOk result (judging 0 self.now ≡ Ok tt) }
-        ensures room { OnOk result (long ≤ length buffer.now) }
+        ensures room { OnOk result (SIZE ≤ length buffer.now) }
     {
         self.judge(0)?;
-        if buffer.len() < Self::octet_count() {
+        if buffer.len() < Self::SIZE {
             return Err(PlanFault::Buffer);
         }
         Ok(())
@@ -48,12 +45,12 @@ pub trait RecordKind: Sized {
 
     // Writes the record at the front of the buffer.
     fn write(&self, buffer: &mut [u8]) -> Result<(), PlanFault>
-        ensures value { result ≡ answered long (length buffer.old) (judging 0 self.now) }
-        ensures after { buffer.new ≡ put result long (written self.now) buffer.old };
+        ensures value { result ≡ answered SIZE (length buffer.old) (judging 0 self.now) }
+        ensures after { buffer.new ≡ put result SIZE (written self.now) buffer.old };
 
-    ghost some: { 0 < long };
+    ghost some: { 0 < SIZE };
 
-    ghost whole: { (x : Self) → length (written x) ≡ long };
+    ghost whole: { (x : Self) → length (written x) ≡ SIZE };
 
     // A record reads back as it was written.
     ghost readback: { (x : Self) (j k : ℕ) → judging j x ≡ Ok tt → reading k (written x) ≡ Ok x };

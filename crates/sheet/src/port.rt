@@ -42,7 +42,7 @@ impl PortRecord {
 impl RecordKind for PortRecord {
     const SIZE: usize = 8;
 
-    ghost long = { 8 };
+    ghost SIZE = { 8 };
 
     ghost reading = { read_port };
 
@@ -59,10 +59,6 @@ impl RecordKind for PortRecord {
     ghost writable = { port-writable };
 
     ghost rewritten = { port-rewritten };
-
-    fn octet_count() -> usize {
-        Self::SIZE
-    }
 
     fn read(index: usize, octets: &[u8]) -> Result<PortRecord, RecordFault> {
         let Ok(octets) = <&[u8; 8]>::try_from(octets) else {

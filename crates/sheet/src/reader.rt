@@ -34,18 +34,18 @@ impl<'a> Reader<'a> {
 
     // The record that the reader stands at, by its kind's own reading.
     pub fn read<K: RecordKind>(&self) -> Result<K, RecordFault>
-        ensures value { result ≡ read_at K.long K.reading self.now.index self.now.sheet.now }
+        ensures value { result ≡ read_at K.SIZE K.reading self.now.index self.now.sheet.now }
     {
-        let octets = self.octets(K::octet_count())?;
+        let octets = self.octets(K::SIZE)?;
         K::read(self.index, octets)
     }
 }
 
 // How many records a sheet has; one that is not whole records is refused at that count.
 pub fn whole_records<K: RecordKind>(sheet: &[u8]) -> Result<usize, SheetFault>
-    ensures value { result ≡ record_count K.long sheet.now }
+    ensures value { result ≡ record_count K.SIZE sheet.now }
 {
-    let size = K::octet_count();
+    let size = K::SIZE;
     let count = sheet.len() / size;
     if sheet.len() % size != 0 {
         return Err(SheetFault::Unfinished { index: count });

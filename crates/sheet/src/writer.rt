@@ -20,10 +20,10 @@ fn judge_all<K: RecordKind>(records: &[K]) -> Result<(), RecordFault>
 // Puts a record that may be written to its place in a buffer that is long enough.
 fn put_record<K: RecordKind>(item: &K, index: usize, buffer: &mut [u8])
     requires judged { K.judging 0 item.now ≡ Ok tt }
-    requires room { index * K.long + K.long ≤ length buffer.old }
-    ensures after { buffer.new ≡ take (index * K.long) buffer.old ++ (K.written item.now ++ drop (index * K.long + K.long) buffer.old) }
+    requires room { index * K.SIZE + K.SIZE ≤ length buffer.old }
+    ensures after { buffer.new ≡ take (index * K.SIZE) buffer.old ++ (K.written item.now ++ drop (index * K.SIZE + K.SIZE) buffer.old) }
 {
-    let size = K::octet_count();
+    let size = K::SIZE;
     let first = index * size;
     // Judged, and with room for it, it is never refused.
     let _ = item.write(&mut buffer[first..first + size]);
@@ -32,8 +32,8 @@ fn put_record<K: RecordKind>(item: &K, index: usize, buffer: &mut [u8])
 // Puts records that may be written into a buffer that is long enough.
 fn put_records<K: RecordKind>(records: &[K], buffer: &mut [u8])
     requires judged { judge_from K.judging 0 records.now ≡ Ok tt }
-    requires room { length records.now * K.long ≤ length buffer.old }
-    ensures after { buffer.new ≡ written_sheet K.written records.now ++ drop (length records.now * K.long) buffer.old }
+    requires room { length records.now * K.SIZE ≤ length buffer.old }
+    ensures after { buffer.new ≡ written_sheet K.written records.now ++ drop (length records.now * K.SIZE) buffer.old }
 {
     for (index, record) in records.iter().enumerate() {
         put_record(record, index, buffer);
@@ -42,12 +42,12 @@ fn put_records<K: RecordKind>(records: &[K], buffer: &mut [u8])
 
 // Writes the records, answers how many octets they take, and leaves the octets behind them as they were.
 pub fn write_sheet<K: RecordKind>(records: &[K], buffer: &mut [u8]) -> Result<usize, PlanFault>
-    ensures value { result ≡ answered_sheet (length records.now * K.long) (length buffer.old) (judge_from K.judging 0 records.now) }
-    ensures after { buffer.new ≡ put result (length records.now * K.long) (written_sheet K.written records.now) buffer.old }
-    ensures undone { Undone K.long K.reading K.judging K.written }
+    ensures value { result ≡ answered_sheet (length records.now * K.SIZE) (length buffer.old) (judge_from K.judging 0 records.now) }
+    ensures after { buffer.new ≡ put result (length records.now * K.SIZE) (written_sheet K.written records.now) buffer.old }
+    ensures undone { Undone K.SIZE K.reading K.judging K.written }
 {
     judge_all(records)?;
-    let size = K::octet_count();
+    let size = K::SIZE;
     if records.len() > buffer.len() / size {
         return Err(PlanFault::Buffer);
     }

@@ -12,7 +12,7 @@ use crate::line::Line;
 impl Line for Cell {
     const LARGEST: u16 = 4000;
 
-    ghost most = { 4000 };
+    ghost LARGEST = { 4000 };
 
     ghost meaning = { λ x. record { ports = x.ports; time = cell_time x.ports x.size x.time } };
 
@@ -44,10 +44,6 @@ impl Line for Cell {
         let more = mul-le-mul_right x.time (cells_monotone l m x.size (omega arith) le) in
         rw (carried_within x.ports 4000 q m (Times.cells m x.size * x.time) port (omega arith) most) more)
         (omega arith) };
-
-    fn longest() -> u16 {
-        Self::LARGEST
-    }
 
     fn ports(&self) -> u8 {
         self.ports

@@ -22,7 +22,7 @@ impl Rate {
 impl Line for Ethernet {
     const LARGEST: u16 = 1522;
 
-    ghost most = { 1522 };
+    ghost LARGEST = { 1522 };
 
     ghost meaning = { λ x. record { ports = x.ports; time = ethernet_time x.ports x.rates } };
 
@@ -45,10 +45,6 @@ impl Line for Ethernet {
     ghost bounded = { Prim.search rules };
 
     ghost longer = { Prim.search rules };
-
-    fn longest() -> u16 {
-        Self::LARGEST
-    }
 
     fn ports(&self) -> u8 {
         self.ports

@@ -23,7 +23,7 @@ use sheet::{Reader, RecordKind};
 impl<L: Line> Plan<L> {
     // A free row, and what it will hold once an offer is placed there, or the first refusal.
     fn place(&self, setup: &Setup, offer: &Offer) -> Result<(usize, Row), PlanFault>
-        ensures placed { let net = network (L.meaning self.now.line) setup.now in elim result [ Ok p ↦ Placed L.most net self.now.rows (offered offer.now.flow) p.0 p.1 | Err e ↦ answer net L.most (held self.now.rows) (offered offer.now.flow) ≡ Err e ] }
+        ensures placed { let net = network (L.meaning self.now.line) setup.now in elim result [ Ok p ↦ Placed L.LARGEST net self.now.rows (offered offer.now.flow) p.0 p.1 | Err e ↦ answer net L.LARGEST (held self.now.rows) (offered offer.now.flow) ≡ Err e ] }
     {
         let network = Network {
             line: &self.line,

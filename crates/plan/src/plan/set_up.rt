@@ -33,7 +33,7 @@ impl<L: Line> Plan<L> {
         if figures.count != usize::from(self.line.ports()) {
             return Err(PlanFault::PortCount);
         }
-        if figures.longest > L::longest() {
+        if figures.longest > L::LARGEST {
             return Err(PlanFault::BestEffort);
         }
         let ports = figures.ports;

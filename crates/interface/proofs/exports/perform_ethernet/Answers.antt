@@ -21,4 +21,4 @@ returns-clause-performs c codes =
     let line = c.fill.new.self in
     let means = coded-is cs line (coded cs c.new-line.result c.fill.result line c.in_ok-map_err.ensures.variant c.fill.ensures.filled) in
     subst (λ (w : Wires). Performs w c.args.calls.now c.args.answers.now c.args.buffer.now (came_to (returned_number c.performed.result) c.performed.new.answers c.performed.new.buffer))
-    (ap (wires ethernet_line.most) means) c.performed.ensures.performs
+    (ap (wires ethernet_line.LARGEST) means) c.performed.ensures.performs

@@ -22,14 +22,14 @@ use Rattle.interface.proofs.perform.performed.Given as given
 use Rattle.interface.proofs.perform.performed.Goals as goal
 
 -- the line keeps the rules
-rules : (g : given.Over) (x : g.row.L.Denot) → Rules g.L.Line.most (g.L.Line.meaning x)
+rules : (g : given.Over) (x : g.row.L.Denot) → Rules g.L.Line.LARGEST (g.L.Line.meaning x)
 rules g x =
     let met = g.met.L.Line in
-    rules-from g.L.Line.most (g.L.Line.meaning x) met.least met.greatest (met.some x) (met.few x) (met.absent x) (met.short x) (met.long x) (met.timed x) (met.bounded x) (met.longer x)
+    rules-from g.L.Line.LARGEST (g.L.Line.meaning x) met.least met.greatest (met.some x) (met.few x) (met.absent x) (met.short x) (met.long x) (met.timed x) (met.bounded x) (met.longer x)
 
 pub returns-in_err-count-clause-performs : goal.returns-in_err-count-clause-performs
 returns-in_err-count-clause-performs g c =
-    let w = wires g.L.Line.most (g.L.Line.meaning c.args.line) in
+    let w = wires g.L.Line.LARGEST (g.L.Line.meaning c.args.line) in
     let calls = c.args.calls.now in
     let none = not-counted (calls_of calls) _ c.in_err-count.ensures.value in
     let told = err_from_is_err_and c.from_residual.result c.from_residual.ensures.1 in
@@ -39,7 +39,7 @@ returns-in_err-count-clause-performs g c =
 
 pub returns-then-answers-count : goal.returns-then-answers-count
 returns-then-answers-count g c =
-    let w = wires g.L.Line.most (g.L.Line.meaning c.args.line) in
+    let w = wires g.L.Line.LARGEST (g.L.Line.meaning c.args.line) in
     let calls = c.args.calls.now in
     let count = is-counted (calls_of calls) c.in_ok-count.count c.in_ok-count.ensures.value in
     let many = count.1 in
@@ -58,7 +58,7 @@ loop-index-init g c =
     let turn = ap enumerate_count same ∙ c.enumerate-index-items.ensures.count in
     let source = ap enumerate_source same ∙ c.enumerate-index-items.ensures.source in
     let count = is-counted (calls_of calls) c.in_ok-count.count c.in_ok-count.ensures.value in
-    let w = wires g.L.Line.most (g.L.Line.meaning x) in
+    let w = wires g.L.Line.LARGEST (g.L.Line.meaning x) in
     let m = model c.new-plan.result.setup c.new-plan.result.rows in
     let going = going-at-first w ss a b calls m count.0 (record { setup = ap setup made.setup; held = same_of made.held }) in
     (refl, subst (λ (at : ℕ × Calls). Going w ss a b at.0 at.1.0.now m a b) (λ i. (sym turn i, sym source i)) going)
@@ -86,7 +86,7 @@ write_answer-requires g c =
 pub loop-index-preserved : goal.loop-index-preserved
 loop-index-preserved g c =
     let x = c.new-plan.result.line in
-    let w = wires g.L.Line.most (g.L.Line.meaning x) in
+    let w = wires g.L.Line.LARGEST (g.L.Line.meaning x) in
     let calls = c.args.calls.now in
     let rest = (enumerate_source c.loop-index.index-iterator).0.now in
     let behind = (enumerate_source c.next.new.self).0.now in
@@ -97,7 +97,7 @@ loop-index-preserved g c =
     let m = model plan.setup plan.rows in
     let m' = model c.call.new.self.setup c.call.new.self.rows in
     let inv = c.loop-index.invariant in
-    let same = ap (λ (y : g.row.L.Denot). wires g.L.Line.most (g.L.Line.meaning y)) inv.0 in
+    let same = ap (λ (y : g.row.L.Denot). wires g.L.Line.LARGEST (g.L.Line.meaning y)) inv.0 in
     let does = c.call.ensures in
     let replied = does.value ∙ ap (λ (v : Wires). reply v m (length c.loop-index.buffer) d) same ∙ ap (λ (n : ℕ). reply w m n d) c.loop-index.auto.buffer in
     let wrote = does.buffer ∙ ap (λ (v : Wires). written v m c.loop-index.buffer d) same in
@@ -110,12 +110,12 @@ loop-index-preserved g c =
 pub returns : goal.returns
 returns g c =
     let x = c.args.line in
-    let w = wires g.L.Line.most (g.L.Line.meaning x) in
+    let w = wires g.L.Line.LARGEST (g.L.Line.meaning x) in
     let calls = c.args.calls.now in
     let ss = listed (calls_of calls) in
     let a = c.args.answers.now in
     let b = c.args.buffer.now in
-    let v = ap (λ (y : g.row.L.Denot). wires g.L.Line.most (g.L.Line.meaning y)) c.new-plan.ensures.line in
+    let v = ap (λ (y : g.row.L.Denot). wires g.L.Line.LARGEST (g.L.Line.meaning y)) c.new-plan.ensures.line in
     let count = is-counted (calls_of calls) c.in_ok-count.count c.in_ok-count.ensures.value in
     let many = count.1 in
     let is = all_done w a b (calls_of calls) ss count.0 (omega arith) in

@@ -9,6 +9,6 @@ use Rattle.interface.proofs.perform.performed.Given as goal
 
 abbrev pub invariant-loop-index : goal.invariant-loop-index
 invariant-loop-index g l =
-    let w = wires g.L.Line.most (g.L.Line.meaning l.initial.plan.line) in
+    let w = wires g.L.Line.LARGEST (g.L.Line.meaning l.initial.plan.line) in
     (l.plan.line ≡ l.initial.plan.line)
     × Going w (listed (calls_of l.calls)) l.initial.answers l.initial.buffer (enumerate_count l.index-iterator) (enumerate_source l.index-iterator).0.now (model l.plan.setup l.plan.rows) l.answers l.buffer

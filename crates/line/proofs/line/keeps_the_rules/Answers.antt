@@ -7,6 +7,6 @@ returns g c =
     let x = c.args.line.now in
     let met = g.met.L.Line in
     record {
-      rules = rules-from g.L.Line.most (g.L.Line.meaning x) met.least met.greatest (met.some x) (met.few x)
+      rules = rules-from g.L.Line.LARGEST (g.L.Line.meaning x) met.least met.greatest (met.some x) (met.few x)
           (met.absent x) (met.short x) (met.long x) (met.timed x) (met.bounded x) (met.longer x);
     }

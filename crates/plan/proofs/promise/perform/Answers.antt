@@ -16,7 +16,7 @@ pub returns-in_default : goal.returns-in_default
 returns-in_default g c =
     let x = c.args.line in
     let met = g.met.L.Line in
-    let w = wires g.L.Line.most (g.L.Line.meaning x) in
+    let w = wires g.L.Line.LARGEST (g.L.Line.meaning x) in
     let rules = rules-from w.most w.meaning met.least met.greatest (met.some x) (met.few x) (met.absent x) (met.short x) (met.long x) (met.timed x) (met.bounded x) (met.longer x) in
     record { answers = tt; line = refl; holds = tt; buffer = refl; assured = always-assured w rules c.args.calls.now; lists = lists_always_fit w rules c.args.calls.now }
 
@@ -30,7 +30,7 @@ pub loop-call-preserved : goal.loop-call-preserved
 loop-call-preserved g c =
     let x = c.new-plan.result.line in
     let met = g.met.L.Line in
-    let w = wires g.L.Line.most (g.L.Line.meaning x) in
+    let w = wires g.L.Line.LARGEST (g.L.Line.meaning x) in
     let rules = rules-from w.most w.meaning met.least met.greatest (met.some x) (met.few x) (met.absent x) (met.short x) (met.long x) (met.timed x) (met.bounded x) (met.longer x) in
     let cs = c.args.calls.now in
     let i = c.loop-call.call-index in
@@ -39,7 +39,7 @@ loop-call-preserved g c =
     let plan = c.loop-call.plan in
     let m = model plan.setup plan.rows in
     let inv = c.loop-call.invariant in
-    let same = ap (λ (y : g.row.L.Denot). wires g.L.Line.most (g.L.Line.meaning y)) inv.0 in
+    let same = ap (λ (y : g.row.L.Denot). wires g.L.Line.LARGEST (g.L.Line.meaning y)) inv.0 in
     let does = c.call.ensures in
     let replied = does.value ∙ ap (λ (v : Wires). reply v m (length c.loop-call.buffer) call) same ∙ ap (λ (n : ℕ). reply w m n call) c.loop-call.auto.buffer in
     let wrote = does.buffer ∙ ap (λ (v : Wires). written v m c.loop-call.buffer call) same in
@@ -55,13 +55,13 @@ pub returns : goal.returns
 returns g c =
     let x = c.args.line in
     let met = g.met.L.Line in
-    let w = wires g.L.Line.most (g.L.Line.meaning x) in
+    let w = wires g.L.Line.LARGEST (g.L.Line.meaning x) in
     let cs = c.args.calls.now in
     let i = c.loop-call.call-index in
     let over = c.loop-call-test.false in
     let inv = c.loop-call.invariant in
     let made = c.new-plan.ensures.line in
-    let w' = ap (λ (y : g.row.L.Denot). wires g.L.Line.most (g.L.Line.meaning y)) made in
+    let w' = ap (λ (y : g.row.L.Denot). wires g.L.Line.LARGEST (g.L.Line.meaning y)) made in
     let rules = rules-from w.most w.meaning met.least met.greatest (met.some x) (met.few x) (met.absent x) (met.short x) (met.long x) (met.timed x) (met.bounded x) (met.longer x) in
     let m = model c.loop-call.plan.setup c.loop-call.plan.rows in
     record {

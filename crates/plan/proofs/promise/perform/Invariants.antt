@@ -8,7 +8,7 @@ use Rattle.plan.proofs.promise.perform.Given as goal
 
 abbrev pub invariant-loop-call : goal.invariant-loop-call
 invariant-loop-call g l =
-    let w = wires g.L.Line.most (g.L.Line.meaning l.initial.plan.line) in
+    let w = wires g.L.Line.LARGEST (g.L.Line.meaning l.initial.plan.line) in
     (l.plan.line ≡ l.initial.plan.line)
     × Alike (model l.plan.setup l.plan.rows) (after w empty (take l.call-index l.calls))
     × (vec_items l.answers ≡ replies w empty (length l.initial.buffer) (take l.call-index l.calls))

@@ -6,7 +6,7 @@ use Rattle.records.proofs.listed.add_records.Goals as goal
 
 pub loop-index-preserved : goal.loop-index-preserved
 loop-index-preserved g c =
-    let z = g.K.RecordKind.long in
+    let z = g.K.RecordKind.SIZE in
     let reading = g.K.RecordKind.reading in
     let sheet = c.args.sheet.now in
     let before = string_bytes c.loop-index.lines in

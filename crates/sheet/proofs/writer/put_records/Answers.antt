@@ -12,5 +12,5 @@ put_record-requires-clause-judged g c =
 
 pub loop-index-preserved : goal.loop-index-preserved
 loop-index-preserved g c =
-    place_more g.K.RecordKind.long g.K.RecordKind.written g.met.K.RecordKind.whole c.args.records.now c.loop-index.index c.index-records-index.result
+    place_more g.K.RecordKind.SIZE g.K.RecordKind.written g.met.K.RecordKind.whole c.args.records.now c.loop-index.index c.index-records-index.result
     c.loop-index.buffer c.args.buffer.now c.put_record.new.buffer c.index-records-index.is c.loop-index-test.true c.loop-index.invariant c.put_record.ensures.after

@@ -5,4 +5,4 @@ use Rattle.sheet.proofs.writer.put_records.Given as goal
 
 abbrev pub invariant-loop-index : goal.invariant-loop-index
 invariant-loop-index g l =
-    l.buffer ≡ written_sheet g.K.RecordKind.written (take l.index l.records) ++ drop (l.index * g.K.RecordKind.long) l.initial.buffer
+    l.buffer ≡ written_sheet g.K.RecordKind.written (take l.index l.records) ++ drop (l.index * g.K.RecordKind.SIZE) l.initial.buffer

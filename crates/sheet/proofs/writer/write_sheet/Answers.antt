@@ -4,9 +4,9 @@ use Rattle.sheet.proofs.writer.write_sheet.Given as given
 use Rattle.sheet.proofs.writer.write_sheet.Goals as goal
 
 -- the laws of the kind give the promises
-promised : (g : given.Over) → Undone g.K.RecordKind.long g.K.RecordKind.reading g.K.RecordKind.judging g.K.RecordKind.written
+promised : (g : given.Over) → Undone g.K.RecordKind.SIZE g.K.RecordKind.reading g.K.RecordKind.judging g.K.RecordKind.written
 promised g =
-    undone g.K.RecordKind.long g.K.RecordKind.reading g.K.RecordKind.judging g.K.RecordKind.written
+    undone g.K.RecordKind.SIZE g.K.RecordKind.reading g.K.RecordKind.judging g.K.RecordKind.written
     g.met.K.RecordKind.some g.met.K.RecordKind.whole g.met.K.RecordKind.readback g.met.K.RecordKind.writable g.met.K.RecordKind.rewritten
 
 pub returns-in_err-judge_all-clause-undone : goal.returns-in_err-judge_all-clause-undone

@@ -10,7 +10,7 @@ pub returns : goal.returns
 returns g c =
     let line = c.args.self.now.line.now in
     record {
-      judged = passes g.L.Line.most (network (g.L.Line.meaning line) c.args.self.now.setup.now) (offered c.args.offer.now.flow) c.ports.result c.timing-timing.result
+      judged = passes g.L.Line.LARGEST (network (g.L.Line.meaning line) c.args.self.now.setup.now) (offered c.args.offer.now.flow) c.ports.result c.timing-timing.result
           c.ports.ensures.value c.timing-timing.ensures.times (route_few c.args.offer.now.limited)
           c.if-not-regular.ensures.value c.in_default.ensures.value (omega arith) c.in_default-overlong.ensures.value (omega arith);
     }

@@ -26,6 +26,6 @@ returns g c =
     let x = offered c.args.offer.now.flow in
     let long = ap (λ (qs : List ℕ). length qs) c.route-port-items.ensures.value in
     record {
-      times = so_far-all g.L.Line.most (network (g.L.Line.meaning line) c.args.self.now.setup.now) x c.loop-k.k c.loop-k.hops c.loop-k.offset c.loop-k.total
+      times = so_far-all g.L.Line.LARGEST (network (g.L.Line.meaning line) c.args.self.now.setup.now) x c.loop-k.k c.loop-k.hops c.loop-k.offset c.loop-k.total
           (route_few c.args.offer.now.limited) (omega arith) (λ q. g.met.L.Line.timed line q x.length) c.loop-k.invariant;
     }

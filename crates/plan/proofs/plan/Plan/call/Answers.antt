@@ -15,7 +15,7 @@ pub returns-in-SetUp-clause-after : goal.returns-in-SetUp-clause-after
 returns-in-SetUp-clause-after g c =
     let plan = c.args.self.now in
     let does = c.set_up.ensures in
-    rw c.in-SetUp.is (set_up_called (wires g.L.Line.most (g.L.Line.meaning plan.line)) plan.setup _ plan.rows _ c.in-SetUp.cycle c.in-SetUp.ports does.rows does.after)
+    rw c.in-SetUp.is (set_up_called (wires g.L.Line.LARGEST (g.L.Line.meaning plan.line)) plan.setup _ plan.rows _ c.in-SetUp.cycle c.in-SetUp.ports does.rows does.after)
 
 pub returns-in-Offer-clause-value : goal.returns-in-Offer-clause-value
 returns-in-Offer-clause-value g c =
@@ -26,7 +26,7 @@ pub returns-in-Offer-clause-after : goal.returns-in-Offer-clause-after
 returns-in-Offer-clause-after g c =
     let plan = c.args.self.now in
     let does = c.offer.ensures in
-    rw c.in-Offer.is (offer_called (wires g.L.Line.most (g.L.Line.meaning plan.line)) plan.setup _ plan.rows c.offer.new.self.rows c.in-Offer.flows c.in-Offer.index _ does.value does.setup does.after)
+    rw c.in-Offer.is (offer_called (wires g.L.Line.LARGEST (g.L.Line.meaning plan.line)) plan.setup _ plan.rows c.offer.new.self.rows c.in-Offer.flows c.in-Offer.index _ does.value does.setup does.after)
 
 pub returns-in-Withdraw-clause-value : goal.returns-in-Withdraw-clause-value
 returns-in-Withdraw-clause-value g c =
@@ -37,7 +37,7 @@ pub returns-in-Withdraw-clause-after : goal.returns-in-Withdraw-clause-after
 returns-in-Withdraw-clause-after g c =
     let plan = c.args.self.now in
     let does = c.withdraw.ensures in
-    rw c.in-Withdraw.is (withdraw_called (wires g.L.Line.most (g.L.Line.meaning plan.line)) plan.setup _ plan.rows c.withdraw.new.self.rows c.in-Withdraw.number _ does.value does.setup does.after)
+    rw c.in-Withdraw.is (withdraw_called (wires g.L.Line.LARGEST (g.L.Line.meaning plan.line)) plan.setup _ plan.rows c.withdraw.new.self.rows c.in-Withdraw.number _ does.value does.setup does.after)
 
 pub returns-in-StartOf-clause-value : goal.returns-in-StartOf-clause-value
 returns-in-StartOf-clause-value g c =

@@ -51,7 +51,7 @@ pub returns-clause-after : goal.returns-clause-after
 returns-clause-after g c =
     let plan = c.args.self.now in
     let placed = c.in_ok-k.ensures.placed in
-    let w = wires g.L.Line.most (g.L.Line.meaning plan.line) in
+    let w = wires g.L.Line.LARGEST (g.L.Line.meaning plan.line) in
     let m = model plan.setup plan.rows in
     let sheet = c.args.flows.now in
     let x = c.in_ok-read.field-0 in

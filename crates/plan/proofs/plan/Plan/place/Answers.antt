@@ -17,7 +17,7 @@ returns-then-is_some g c =
     let x = offered c.args.offer.now.flow in
     let net = network (g.L.Line.meaning plan.line) c.args.setup.now in
     let named = held-found x.number plan.rows _ c.find.ensures.cases in
-    record { placed = answer-held net g.L.Line.most (flows plan.rows) x (named ∙ (cc)) }
+    record { placed = answer-held net g.L.Line.LARGEST (flows plan.rows) x (named ∙ (cc)) }
 
 pub returns-in_err-row : goal.returns-in_err-row
 returns-in_err-row g c =
@@ -27,7 +27,7 @@ returns-in_err-row g c =
     let p = err_from_is_err_and c.from_residual.result c.from_residual.ensures.1 in
     let free = c.in-Some.ensures.cases in
     rw (p.1, p.2) (record {
-      placed = answer-unfit net g.L.Line.most (flows plan.rows) x (held-found x.number plan.rows _ c.find.ensures.cases ∙ (cc)) (room-left plan.rows _ plan.long free.0 free.1) c.in_err-row.ensures.made;
+      placed = answer-unfit net g.L.Line.LARGEST (flows plan.rows) x (held-found x.number plan.rows _ c.find.ensures.cases ∙ (cc)) (room-left plan.rows _ plan.long free.0 free.1) c.in_err-row.ensures.made;
     })
 
 pub returns-in_err-row-2 : goal.returns-in_err-row-2
@@ -38,7 +38,7 @@ returns-in_err-row-2 g c =
     let p = err_from_is_err_and c.from_residual-in_err-row-2.result c.from_residual-in_err-row-2.ensures.1 in
     let free = c.in-Some.ensures.cases in
     let made = c.in_ok-row.ensures.made in
-    let done = answer-placed net g.L.Line.most (flows plan.rows) x (held-found x.number plan.rows _ c.find.ensures.cases ∙ (cc)) (room-left plan.rows _ plan.long free.0 free.1) made.passes in
+    let done = answer-placed net g.L.Line.LARGEST (flows plan.rows) x (held-found x.number plan.rows _ c.find.ensures.cases ∙ (cc)) (room-left plan.rows _ plan.long free.0 free.1) made.passes in
     let at = ap (λ (f : Flow). placed (flows plan.rows) x.chosen f) made.flow in
     rw (p.1, p.2) (record { placed = done ∙ sym at ∙ sym c.in_err-row-2.ensures.value })
 
@@ -58,7 +58,7 @@ returns g c =
     let made = c.in_ok-row.ensures.made in
     let fresh = (held-found x.number plan.rows _ c.find.ensures.cases ∙ (cc)) in
     let value = c.in_ok-row-2.ensures.value in
-    let done = answer-placed net g.L.Line.most (flows plan.rows) x fresh (room-left plan.rows _ plan.long free.0 free.1) made.passes in
+    let done = answer-placed net g.L.Line.LARGEST (flows plan.rows) x fresh (room-left plan.rows _ plan.long free.0 free.1) made.passes in
     let at = ap (λ (f : Flow). placed (flows plan.rows) x.chosen f) made.flow in
     let fitting = placed-fits (flows plan.rows) c.args.offer.now.flow.start (flow row) s (sym value) in
     record {

@@ -18,7 +18,7 @@ pub returns-in_err-figures : goal.returns-in_err-figures
 returns-in_err-figures g c =
     let plan = c.args.self.now in
     let fault = err_from_is_err_and c.from_residual.result c.from_residual.ensures.1 in
-    let answered = set_up_fault (wires g.L.Line.most (g.L.Line.meaning plan.line)) (model plan.setup plan.rows) c.args.cycle c.args.ports.now c.in_err-figures.field-0.0 c.in_err-figures.ensures.reads in
+    let answered = set_up_fault (wires g.L.Line.LARGEST (g.L.Line.meaning plan.line)) (model plan.setup plan.rows) c.args.cycle c.args.ports.now c.in_err-figures.field-0.0 c.in_err-figures.ensures.reads in
     rw answered (record { value = fault.1 ∙ ap Err fault.2; line = refl; rows = refl; after = refl })
 
 pub returns-then-not-contains : goal.returns-then-not-contains
@@ -28,7 +28,7 @@ returns-then-not-contains g c =
     let read = records g (goal.at.returns-then-not-contains g c).In_ok-figures in
     let unset : setup plan.setup ≡ None = search rules in
     let outside : (ltb C 1000 || ltb 1000000000 C) ≡ true = search rules in
-    let answered = set_up-cycle (wires g.L.Line.most (g.L.Line.meaning plan.line)) (model plan.setup plan.rows) C c.args.ports.now read unset outside in
+    let answered = set_up-cycle (wires g.L.Line.LARGEST (g.L.Line.meaning plan.line)) (model plan.setup plan.rows) C c.args.ports.now read unset outside in
     rw answered (record { value = refl; line = refl; rows = refl; after = refl })
 
 pub returns-then-figures-from : goal.returns-then-figures-from
@@ -39,18 +39,18 @@ returns-then-figures-from g c =
     let unset : setup plan.setup ≡ None = search rules in
     let low : 1000 ≤ C = search rules in
     let high : C ≤ 1000000000 = search rules in
-    let answered = set_up-count (wires g.L.Line.most (g.L.Line.meaning plan.line)) (model plan.setup plan.rows) C c.args.ports.now read unset low high (λ same. absurd (omega arith)) in
+    let answered = set_up-count (wires g.L.Line.LARGEST (g.L.Line.meaning plan.line)) (model plan.setup plan.rows) C c.args.ports.now read unset low high (λ same. absurd (omega arith)) in
     rw answered (record { value = refl; line = refl; rows = refl; after = refl })
 
-pub returns-then-figures-longest : goal.returns-then-figures-longest
-returns-then-figures-longest g c =
+pub returns-then-figures-LARGEST : goal.returns-then-figures-LARGEST
+returns-then-figures-LARGEST g c =
     let plan = c.args.self.now in
     let C = c.args.cycle in
-    let read = records g (goal.at.returns-then-figures-longest g c).In_ok-figures in
+    let read = records g (goal.at.returns-then-figures-LARGEST g c).In_ok-figures in
     let unset : setup plan.setup ≡ None = search rules in
     let low : 1000 ≤ C = search rules in
     let high : C ≤ 1000000000 = search rules in
-    let answered = set_up-best (wires g.L.Line.most (g.L.Line.meaning plan.line)) (model plan.setup plan.rows) C c.args.ports.now read unset low high (omega arith) (omega arith) in
+    let answered = set_up-best (wires g.L.Line.LARGEST (g.L.Line.meaning plan.line)) (model plan.setup plan.rows) C c.args.ports.now read unset low high (omega arith) (omega arith) in
     rw answered (record { value = refl; line = refl; rows = refl; after = refl })
 
 pub returns : goal.returns
@@ -61,5 +61,5 @@ returns g c =
     let unset : setup plan.setup ≡ None = search rules in
     let low : 1000 ≤ C = search rules in
     let high : C ≤ 1000000000 = search rules in
-    let answered = set_up-done (wires g.L.Line.most (g.L.Line.meaning plan.line)) (model plan.setup plan.rows) C c.args.ports.now read unset low high (omega arith) (g.met.L.Line.few plan.line) (omega arith) in
+    let answered = set_up-done (wires g.L.Line.LARGEST (g.L.Line.meaning plan.line)) (model plan.setup plan.rows) C c.args.ports.now read unset low high (omega arith) (g.met.L.Line.few plan.line) (omega arith) in
     rw answered (record { value = refl; line = refl; rows = refl; after = refl })

@@ -18,5 +18,5 @@ returns c =
       made =
           calls_are x.cycle x.ports x.flows n (vec_items c.new-calls.result) (vec_items c.push.new.self) (vec_items c.extend.new.self) (vec_items c.push-2.new.self)
           c.new-calls.ensures.items c.in_ok-push.ensures.items put.0 c.in_ok-push-2.ensures.items
-          (records_are x.flows.now n c.octet_count.result c.div_ceil-count.ensures c.octet_count.ensures.value);
+          (records_are x.flows.now n c.div_ceil-count.ensures);
     }
