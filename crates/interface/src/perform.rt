@@ -17,12 +17,7 @@ use plan::{Answer, Plan};
 fn call_count(octets: &[u8]) -> Result<usize, Unperformed>
     ensures value { result ≡ ok_or (counted (calls_of octets.now)) Unperformed.Calls }
 {
-    let mut count = 0;
-    for call in Calls(octets) {
-        call?;
-        count += 1;
-    }
-    Ok(count)
+    Calls(octets).try_fold(0, |count, call| call.and(Ok(count + 1)))
 }
 
 // Writes an answer behind so many others. By its place: the library says nothing of a slice after `as_chunks_mut`.
