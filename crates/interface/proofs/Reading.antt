@@ -1,6 +1,6 @@
 -- Numbers and calls read from octets, and lists of calls one by one.
 -- Assumes nothing.
-use Rattle.std.proofs.Common.{◌≡◌, ℕ, zero, suc, ◌+◌, ◌*◌, ◌<◌, ◌≤◌, Bool, true, false, cond, eqb, leb, List, [], ◌∷◌, length, get_or, take, drop, Some, None, Ok, Option, Result, sym, refl, ap, ◌∙◌, subst, arith, length-drop}
+use Rattle.std.proofs.Common.{◌≡◌, ◌≢◌, ℕ, zero, suc, ◌+◌, ◌*◌, ◌<◌, ◌≤◌, Bool, true, false, cond, eqb, leb, List, [], ◌∷◌, length, get_or, take, drop, Some, None, Ok, Option, Result, sym, refl, ap, ◌∙◌, subst, arith, length-drop}
 use Rattle.std.proofs.lemmas.Bool.{le-leb, cond-true}
 use Rattle.sheet.specs.Fields.{number}
 use Rattle.sheet.specs.Elements.{listed}
@@ -102,6 +102,6 @@ calls-first (x ∷ s) c rest is =
     ∙ ap (before c) (calls_enough (length s) (length rest) rest (omega arith) (omega arith))
 
 -- octets with no call at the front
-pub calls-none : (s : List ℕ) → 0 < length s → ◌≡◌ {A = Front Spoken} None (first_call s) → calls_of s ≡ None
-calls-none [] some is = absurd (omega arith)
+pub calls-none : (s : List ℕ) → s ≢ [] → ◌≡◌ {A = Front Spoken} None (first_call s) → calls_of s ≡ None
+calls-none [] some is = absurd (some refl)
 calls-none (x ∷ s) some is = ap (λ (r : Front Spoken). elim r as (λ _. Option (List Spoken)) [ None ↦ None | Some (d, behind) ↦ before d (calls_within (length s) behind) ]) (sym is)

@@ -5,14 +5,15 @@ use Rattle.plan.specs.declared.call.Call.{Call}
 use Rattle.plan.specs.Calls.{Wires, empty}
 use Rattle.plan.specs.Promise.{Assures, ListsFit}
 use Rattle.plan.specs.Steps.{after, replies, buffered}
+use Rattle.interface.specs.declared.performed.Performed.{Performed}
 use Rattle.interface.specs.declared.unperformed.Unperformed.{Unperformed}
 use Rattle.interface.specs.declared.unperformed.Unperformed.TheVariants.{Line, Calls, Room}
 use Rattle.interface.specs.Answers.{answers_octets}
 use Rattle.interface.specs.Spoken.{Spoken, call, calls_of}
 
 -- what is returned for a number of calls, and for why none is performed
-abbrev pub returned_number : Result ℕ Unperformed → ℤ
-returned_number (Ok n) = pos n
+abbrev pub returned_number : Result Performed Unperformed → ℤ
+returned_number (Ok performed) = pos performed.count
 returned_number (Err Line) = negsuc 0
 returned_number (Err Calls) = negsuc 1
 returned_number (Err Room) = negsuc 2

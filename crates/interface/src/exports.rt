@@ -1,10 +1,11 @@
 // The functions for a program in C: calls in octets on a plan on either line.
-ghost use Rattle.std.specs.Prelude.{◌≡◌, ◌^◌, ◌<◌, negsuc, IfOk};
+ghost use Rattle.std.specs.Prelude.{◌≡◌, negsuc};
 ghost use Rattle.line.specs.Fillings.{Codes, Cells};
 ghost use Rattle.interface.specs.Lines.{ethernet, cells};
 ghost use Rattle.interface.specs.Performed.{Performs, came_to, returned_number};
 
 use crate::perform::performed;
+use crate::performed::Performed;
 use crate::unperformed::Unperformed;
 use line::{Cell, Ethernet};
 
@@ -42,10 +43,9 @@ fn perform_ethernet(
     calls: &[u8],
     answers: &mut [u8],
     buffer: &mut [u8],
-) -> Result<usize, Unperformed>
+) -> Result<Performed, Unperformed>
     ensures performs { Codes codes.now → Performs (ethernet codes.now) calls.now answers.old buffer.old (came_to (returned_number result) answers.new buffer.new) }
     ensures refused { (Codes codes.now → ⊥) → came_to (returned_number result) answers.new buffer.new ≡ came_to (negsuc 0) answers.old buffer.old }
-    ensures few { IfOk result (λ count. count < 2 ^ 63) }
 {
     let mut line = Ethernet::new();
     line.fill(codes).map_err(|_| Unperformed::Line)?;
@@ -60,10 +60,9 @@ fn perform_cells(
     calls: &[u8],
     answers: &mut [u8],
     buffer: &mut [u8],
-) -> Result<usize, Unperformed>
+) -> Result<Performed, Unperformed>
     ensures performs { Cells ports cell_size cell_time → Performs (cells ports cell_size cell_time) calls.now answers.old buffer.old (came_to (returned_number result) answers.new buffer.new) }
     ensures refused { (Cells ports cell_size cell_time → ⊥) → came_to (returned_number result) answers.new buffer.new ≡ came_to (negsuc 0) answers.old buffer.old }
-    ensures few { IfOk result (λ count. count < 2 ^ 63) }
 {
     let mut line = Cell::new();
     line.fill(ports, cell_size, cell_time)
@@ -72,12 +71,11 @@ fn perform_cells(
 }
 
 // The number that a program in C gets: the only place where a refusal becomes one.
-fn returned_number(outcome: Result<usize, Unperformed>) -> i64
-    requires { IfOk outcome (λ count. count < 2 ^ 63) }
+fn returned_number(outcome: Result<Performed, Unperformed>) -> i64
     ensures value { result ≡ returned_number outcome }
 {
     match outcome {
-        Ok(count) => count as i64,
+        Ok(Performed { count }) => count as i64,
         Err(why) => why as i64,
     }
 }

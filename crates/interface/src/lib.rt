@@ -6,6 +6,7 @@ mod calls;
 mod exports;
 mod formats;
 mod perform;
+mod performed;
 mod read;
 mod unperformed;
 

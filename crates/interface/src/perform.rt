@@ -1,5 +1,5 @@
 // A list of calls in octets, performed on a new plan.
-ghost use Rattle.std.specs.Prelude.{◌≡◌, ◌+◌, ◌*◌, ◌^◌, ◌<◌, ◌≤◌, ◌++◌, length, take, drop, IfOk};
+ghost use Rattle.std.specs.Prelude.{◌≡◌, ◌+◌, ◌*◌, ◌≤◌, ◌++◌, length, take, drop};
 ghost use Rattle.std.specs.Option.{ok_or};
 ghost use Rattle.plan.specs.Models.{wires};
 ghost use Rattle.interface.specs.Answers.{answer_octets};
@@ -8,6 +8,7 @@ ghost use Rattle.interface.specs.Spoken.{calls_of, counted};
 
 use crate::answer::{SIZE, answer_octets};
 use crate::calls::Calls;
+use crate::performed::Performed;
 use crate::unperformed::Unperformed;
 use line::Line;
 use plan::{Answer, Plan};
@@ -16,12 +17,7 @@ use plan::{Answer, Plan};
 fn call_count(octets: &[u8]) -> Result<usize, Unperformed>
     ensures value { result ≡ ok_or (counted (calls_of octets.now)) Unperformed.Calls }
 {
-    let mut count = 0;
-    for call in Calls(octets) {
-        call?;
-        count += 1;
-    }
-    Ok(count)
+    Calls(octets).try_fold(0, |count, call| call.and(Ok(count + 1)))
 }
 
 // Writes an answer behind so many others. By its place: the library says nothing of a slice after `as_chunks_mut`.
@@ -39,9 +35,8 @@ pub(crate) fn performed<L: Line + Drop>(
     calls: &[u8],
     answers: &mut [u8],
     buffer: &mut [u8],
-) -> Result<usize, Unperformed>
+) -> Result<Performed, Unperformed>
     ensures performs { Performs (wires L.LARGEST (L.meaning line)) calls.now answers.old buffer.old (came_to (returned_number result) answers.new buffer.new) }
-    ensures few { IfOk result (λ count. count < 2 ^ 63) }
 {
     let count = call_count(calls)?;
     if answers.len() / SIZE < count {
@@ -51,5 +46,5 @@ pub(crate) fn performed<L: Line + Drop>(
     for (index, call) in Calls(calls).enumerate() {
         write_answer(plan.call(call?, buffer), index, answers);
     }
-    Ok(count)
+    Ok(Performed { count })
 }

@@ -1,13 +1,14 @@
--- Each turn counts one call and leaves fewer octets.
-use Rattle.std.proofs.Common.{◌∙◌, arith}
-use Rattle.interface.proofs.Counting.{counts-one}
-use Rattle.interface.proofs.Reading.{first_shorter, first_call-next}
+-- Each turn counts one call, and there are no more calls than octets.
+use Rattle.std.proofs.Common.{rules}
+use Rattle.interface.proofs.Counting.{counts-turns, told-counted}
 use Rattle.interface.proofs.perform.call_count.Goals as goal
 
-pub loop-call-preserved : goal.loop-call-preserved
-loop-call-preserved c =
-    let rest = c.loop-call.call-iterator.0.now in
-    let behind = c.next.new.self.0.now in
-    let read = first_call-next rest c.in-Some.call c.in_ok-call.field-0 behind c.in_ok-call.was c.in-Some.ensures.steps in
-    let less = first_shorter rest _ behind read in
-    (c.loop-call.invariant.0 ∙ counts-one c.loop-call.count rest _ behind read, omega arith)
+pub try_fold-requires-clause-callable : goal.try_fold-requires-clause-callable
+try_fold-requires-clause-callable c =
+    record { at = λ rs t q r u gives folds next. let few = (counts-turns _ (λ q. q.1) (λ p r q is. (search rules, search rules)) _ _ rs t q gives folds).1 in search rules }
+
+pub returns : goal.returns
+returns c =
+    let ran = c.try_fold.ensures.ran in
+    let counts = counts-turns _ (λ q. q.1) (λ p r q is. (search rules, search rules)) _ _ ran.0 ran.4.0 (ran.2, ran.3) ran.4.1 ran.5 in
+    record { value = told-counted c.try_fold.result ran.1 _ ran.3 c.args.octets.now ran.4.0.0.now _ counts.0 ran.4.2 (λ x stops. (stops.2.0, search rules, search rules)) ran.6 }

@@ -27,15 +27,15 @@ rules g x =
     let met = g.met.L.Line in
     rules-from g.L.Line.LARGEST (g.L.Line.meaning x) met.least met.greatest (met.some x) (met.few x) (met.absent x) (met.short x) (met.long x) (met.timed x) (met.bounded x) (met.longer x)
 
-pub returns-in_err-count-clause-performs : goal.returns-in_err-count-clause-performs
-returns-in_err-count-clause-performs g c =
+pub returns-in_err-count : goal.returns-in_err-count
+returns-in_err-count g c =
     let w = wires g.L.Line.LARGEST (g.L.Line.meaning c.args.line) in
     let calls = c.args.calls.now in
     let none = not-counted (calls_of calls) _ c.in_err-count.ensures.value in
     let told = err_from_is_err_and c.from_residual.result c.from_residual.ensures.1 in
     let why = told.1 ∙ ap Err (told.2 ∙ none.1) in
-    performs w (rules g c.args.line) calls c.args.answers.now c.args.buffer.now _
-    (ap (λ r. came_to (returned_number r) c.args.answers.now c.args.buffer.now) why ∙ no-calls w c.args.answers.now c.args.buffer.now (calls_of calls) none.0)
+    let is = ap (λ r. came_to (returned_number r) c.args.answers.now c.args.buffer.now) why ∙ no-calls w c.args.answers.now c.args.buffer.now (calls_of calls) none.0 in
+    record { performs = performs w (rules g c.args.line) calls c.args.answers.now c.args.buffer.now _ is }
 
 pub returns-then-answers-count : goal.returns-then-answers-count
 returns-then-answers-count g c =
@@ -44,7 +44,7 @@ returns-then-answers-count g c =
     let count = is-counted (calls_of calls) c.in_ok-count.count c.in_ok-count.ensures.value in
     let many = count.1 in
     let is = no_room w c.args.answers.now c.args.buffer.now (calls_of calls) (listed (calls_of calls)) count.0 (omega arith) in
-    record { performs = performs w (rules g c.args.line) calls c.args.answers.now c.args.buffer.now _ is; few = tt }
+    record { performs = performs w (rules g c.args.line) calls c.args.answers.now c.args.buffer.now _ is }
 
 pub loop-index-init : goal.loop-index-init
 loop-index-init g c =
@@ -63,8 +63,8 @@ loop-index-init g c =
     let going = going-at-first w ss a b calls m count.0 (record { setup = ap setup made.setup; held = same_of made.held }) in
     (refl, subst (λ (at : ℕ × Calls). Going w ss a b at.0 at.1.0.now m a b) (λ i. (sym turn i, sym source i)) going)
 
-pub returns-in_err-call-clause-performs : goal.returns-in_err-call-clause-performs
-returns-in_err-call-clause-performs g c =
+pub returns-in_err-call : goal.returns-in_err-call
+returns-in_err-call g c =
     let rest = (enumerate_source c.loop-index.index-iterator).0.now in
     let read = subst (λ (r : Result Call Unperformed). ReadsNext rest (Some r) (enumerate_source c.next.new.self).0.now) c.in_err-call.was c.in-Some.ensures.steps.0 in
     absurd (not-refused rest _ c.loop-index.invariant.1.left read.1 read.2)
@@ -121,7 +121,4 @@ returns g c =
     let is = all_done w a b (calls_of calls) ss count.0 (omega arith) in
     let through = gone_through _ ss a b (enumerate_count c.loop-index.index-iterator) (enumerate_source c.loop-index.index-iterator).0.now _ c.loop-index.answers c.loop-index.buffer c.loop-index.invariant.1 c.in-None.ensures.steps.0.0 in
     let number = ap pos (many ∙ sym (length-map ss call)) in
-    record {
-      performs = performs w (rules g x) calls a b _ (ap (λ n. came_to n c.loop-index.answers c.loop-index.buffer) number ∙ through ∙ ap (λ (u : Wires). done u (map call ss) a b) v ∙ is);
-      few = omega arith;
-    }
+    record { performs = performs w (rules g x) calls a b _ (ap (λ n. came_to n c.loop-index.answers c.loop-index.buffer) number ∙ through ∙ ap (λ (u : Wires). done u (map call ss) a b) v ∙ is) }
