@@ -13,11 +13,17 @@ abbrev pub texts : List (Bor (List ℕ)) → List (List ℕ)
 texts [] = []
 texts (word ∷ ws) = word.now ∷ texts ws
 
--- a word writes a number below 2^64 in decimal digits, perhaps after a plus sign; n is that number, or `most` where it is above
-pub record Number (most : ℕ) (word : List ℕ) (n : ℕ) : Type 0 where
+-- a word writes the number x, below 2^64, in decimal digits, perhaps after a plus sign
+pub record IsNumber (word : List ℕ) (x : ℕ) : Type 0 where
   pub digits : IsNumeral 10 (without_leading_plus word)
-  pub fits : digits_value 10 (without_leading_plus word) < 2 ^ 64
-  pub least : n ≡ min (digits_value 10 (without_leading_plus word)) most
+  pub fits : x < 2 ^ 64
+  pub value : x ≡ digits_value 10 (without_leading_plus word)
+
+-- n is the number that a word writes, or `most` where it is above
+pub record Number (most : ℕ) (word : List ℕ) (n : ℕ) : Type 0 where
+  pub written : ℕ
+  pub number : IsNumber word written
+  pub least : n ≡ min written most
 
 -- "ethernet", and then a rate code in each word
 pub record EthernetWords (ws : List (List ℕ)) (cs : List ℕ) : Type 0 where
