@@ -4,12 +4,21 @@ ghost use Rattle.planning.specs.Overlaps.{overlaps, fits as fitting, earliest as
 ghost use Rattle.network.specs.Overlap.{starting};
 ghost use Rattle.plan.specs.Hops.{Within};
 ghost use Rattle.plan.specs.Rows.{flow, flows, hop};
-ghost use Rattle.plan.specs.Moves.{Moves, Skips, blocks, clash, taken};
 
 use crate::row::{Hop, Row, State};
 use spans::{Clearance, Spans};
 
+// A start that is tried for the flow of a row.
+#[derive(Clone, Copy)]
+pub(crate) struct Trial<'a> {
+    pub row: &'a Row,
+    pub start: u32,
+    ghost below: { start < row.now.period },
+}
+
 impl Row {
+    ghost use Rattle.plan.specs.Moves.{Moves, clash};
+
     // How far spans on a port have to move to clear a hop of this row.
     fn clears_hop(&self, at: &Hop, port: u8, moving: &Spans) -> Clearance
         requires within { Within self.now.period at.now }
@@ -20,16 +29,19 @@ impl Row {
         }
         moving.clearance(&self.spans(at, self.start))
     }
+}
 
-    // How far the flow of another row has to move from start s to clear this row.
-    pub(crate) fn clears(&self, other: &Row, s: u32) -> Clearance
-        requires below { s < other.now.period }
-        ensures moves { Moves (λ m. overlaps (starting (s + m) (flow other.now)) (flow self.now)) result }
+impl Trial<'_> {
+    ghost use Rattle.plan.specs.Moves.{Moves, Skips, blocks, taken};
+
+    // How far the flow has to move from the start to clear a held row.
+    fn clears(&self, held: &Row) -> Clearance
+        ensures moves { Moves (λ m. overlaps (starting (self.now.start + m) (flow self.now.row.now)) (flow held.now)) result }
     {
-        for at in other.route() {
-            let moving = other.spans(at, s);
-            for held in self.route() {
-                match self.clears_hop(held, at.port, &moving) {
+        for at in self.row.route() {
+            let moving = self.row.spans(at, self.start);
+            for other in held.route() {
+                match held.clears_hop(other, at.port, &moving) {
                     Clearance::Clear => {}
                     met => return met,
                 }
@@ -38,55 +50,53 @@ impl Row {
         Clearance::Clear
     }
 
-    // Past this row, from start s on: the first start that its flow does not take, where one is below the period.
-    fn past(&self, new: &Row, s: u32) -> Option<u32>
-        requires below { s < new.now.period }
-        ensures skips { Skips (blocks self.now (flow new.now)) new.now.period s result }
+    // Past a row, from the start on: the first start that its flow does not take, where one is below the period.
+    fn past(&self, other: &Row) -> Option<u32>
+        ensures skips { Skips (blocks other.now (flow self.now.row.now)) self.now.row.now.period self.now.start result }
     {
-        if self.state == State::Free {
-            return Some(s);
+        if other.state == State::Free {
+            return Some(self.start);
         }
-        match self.clears(new, s) {
-            Clearance::Clear => Some(s),
+        match self.clears(other) {
+            Clearance::Clear => Some(self.start),
             Clearance::After(n) => {
-                let at = s.saturating_add(n);
-                if at < new.period { Some(at) } else { None }
+                let at = self.start.saturating_add(n);
+                if at < self.row.period { Some(at) } else { None }
             }
             Clearance::Never => None,
         }
     }
-}
 
-// One look over the rows, from start s on, past each row that the flow clashes with.
-fn pass(rows: &[Row], new: &Row, s: u32) -> Option<u32>
-    requires below { s < new.now.period }
-    ensures skips { Skips (taken (flows rows.now) (flow new.now)) new.now.period s result }
-{
-    let mut at = s;
-    for row in rows {
-        at = row.past(new, at)?;
+    // One look over the rows, from the start on, past each row that the flow clashes with.
+    fn pass(&self, rows: &[Row]) -> Option<u32>
+        ensures skips { Skips (taken (flows rows.now) (flow self.now.row.now)) self.now.row.now.period self.now.start result }
+    {
+        let row = self.row;
+        let mut start = self.start;
+        for other in rows {
+            start = Trial { row, start }.past(other)?;
+        }
+        Some(start)
     }
-    Some(at)
-}
 
-// Whether the flow of a row fits beside the held ones at start s.
-pub(crate) fn fits(rows: &[Row], new: &Row, s: u32) -> bool
-    requires below { s < new.now.period }
-    ensures value { result ≡ fitting (flows rows.now) (starting s (flow new.now)) }
-{
-    pass(rows, new, s) == Some(s)
+    // Whether the flow fits beside the held ones at the start.
+    pub(crate) fn fits(&self, rows: &[Row]) -> bool
+        ensures value { result ≡ fitting (flows rows.now) (starting self.now.start (flow self.now.row.now)) }
+    {
+        self.pass(rows) == Some(self.start)
+    }
 }
 
 // The smallest start below its period at which the flow of a row fits beside the held ones.
-pub(crate) fn earliest(rows: &[Row], new: &Row) -> Option<u32>
-    ensures value { result ≡ first_fitting (flows rows.now) (flow new.now) }
+pub(crate) fn earliest(rows: &[Row], row: &Row) -> Option<u32>
+    ensures value { result ≡ first_fitting (flows rows.now) (flow row.now) }
 {
-    let mut s = 0;
+    let mut start = 0;
     loop {
-        let at = pass(rows, new, s)?;
-        if at == s {
-            return Some(s);
+        let at = Trial { row, start }.pass(rows)?;
+        if at == start {
+            return Some(start);
         }
-        s = at;
+        start = at;
     }
 }

@@ -6,7 +6,7 @@ ghost use Rattle.plan.specs.Offers.{Made};
 ghost use Rattle.plan.specs.Rows.{flow as row_flow, flows};
 ghost use Rattle.plan.specs.Timings.{network};
 
-use crate::fit::{earliest, fits};
+use crate::fit::{Trial, earliest};
 use crate::judge::Network;
 use crate::offer::Offer;
 use crate::row::{Row, State};
@@ -39,8 +39,8 @@ pub(crate) fn start_beside(rows: &[Row], row: &Row, start: Option<u32>) -> Resul
     ensures value { result ≡ placed (flows rows.now) start (row_flow row.now) }
 {
     match start {
-        Some(s) if s >= row.period => Err(PlanFault::Start),
-        Some(s) if fits(rows, row, s) => Ok(s),
+        Some(start) if start >= row.period => Err(PlanFault::Start),
+        Some(start) if Trial { row, start }.fits(rows) => Ok(start),
         Some(_) => Err(PlanFault::Taken),
         None => earliest(rows, row).ok_or(PlanFault::NoStart),
     }
