@@ -49,6 +49,7 @@ impl Row {
     }
 
     // The spans of its flow at a hop, from start s on.
+    // Each caller says that the hop is within the period: a limit kept by `Hop` itself would cost its derived `Default`.
     pub(crate) fn spans(&self, at: &Hop, s: u32) -> Spans
         requires within { Within self.now.period at.now }
         requires below { s < self.now.period }

@@ -1,5 +1,5 @@
 -- Every start that the row's answer skips is blocked by the row.
-use Rattle.std.proofs.Common.{◌≡◌, ℕ, ◌-◌, ◌<◌, true, rules, arith}
+use Rattle.std.proofs.Common.{◌≡◌, ◌-◌, ◌<◌, true, rules, arith}
 use borrow.Author.Tests.{tests}
 use Rattle.plan.specs.declared.row.State.TheVariants.{Free}
 use Rattle.plan.specs.Rows.{flow}
