@@ -1,6 +1,6 @@
 -- Which words ask for which command.
 -- Assumes nothing.
-use Rattle.std.specs.Prelude.{◌≡◌, ℕ, ◌+◌, ◌^◌, ◌<◌, min, List, [], ◌∷◌, length, Some, None, vec_items, codes, Option, slice_index, slice_index_or}
+use Rattle.std.specs.Prelude.{◌≡◌, ℕ, ◌+◌, ◌^◌, ◌<◌, min, List, [], length, Some, None, vec_items, codes, Option, slice_index, slice_index_or, map}
 use Rattle.std.specs.Borrow.{Bor}
 use Rattle.std.specs.Str.Parse.{IsNumeral, digits_value, without_leading_plus}
 use Rattle.wires.specs.Answers.{name}
@@ -10,14 +10,19 @@ use Rattle.wires.specs.declared.command.Kind.{Kind}
 
 -- the octets of each word of a slice
 abbrev pub texts : List (Bor (List ℕ)) → List (List ℕ)
-texts [] = []
-texts (word ∷ ws) = word.now ∷ texts ws
+texts ws = map (λ word. word.now) ws
 
--- a word writes a number below 2^64 in decimal digits, perhaps after a plus sign; n is that number, or `most` where it is above
-pub record Number (most : ℕ) (word : List ℕ) (n : ℕ) : Type 0 where
+-- a word writes the number x, below 2^64, in decimal digits, perhaps after a plus sign
+pub record IsNumber (word : List ℕ) (x : ℕ) : Type 0 where
   pub digits : IsNumeral 10 (without_leading_plus word)
-  pub fits : digits_value 10 (without_leading_plus word) < 2 ^ 64
-  pub least : n ≡ min (digits_value 10 (without_leading_plus word)) most
+  pub fits : x < 2 ^ 64
+  pub value : x ≡ digits_value 10 (without_leading_plus word)
+
+-- n is the number that a word writes, or `most` where it is above
+pub record Number (most : ℕ) (word : List ℕ) (n : ℕ) : Type 0 where
+  pub written : ℕ
+  pub number : IsNumber word written
+  pub least : n ≡ min written most
 
 -- "ethernet", and then a rate code in each word
 pub record EthernetWords (ws : List (List ℕ)) (cs : List ℕ) : Type 0 where

@@ -1,21 +1,21 @@
 // Commands from words.
-ghost use Rattle.std.specs.Prelude.{◌≡◌, ℕ, [], IfOk, codes, MatchOption, MatchResult, ◌≢◌, slice_index_or};
+ghost use Rattle.std.specs.Prelude.{◌≡◌, ℕ, ◌∷◌, IfOk, codes, MatchOption, MatchResult, ◌≢◌};
+ghost use Rattle.std.specs.Result.{result_unwrap_or};
 ghost use Rattle.wires.specs.Answers.{name};
 ghost use Rattle.wires.specs.declared.command.Kind.{Kind};
-ghost use Rattle.wires.specs.Orders.{Number, Understood, texts};
+ghost use Rattle.wires.specs.Orders.{IsNumber, Understood, texts};
 
 use crate::command::{Command, Kind};
 use std::alloc::{AllocError, Global};
+use std::num::TryFromIntError;
 use std::str::FromStr;
 
-// The number that a word writes, or `most` where it is above.
-fn number(word: &str, most: u64) -> Option<u64>
-    ensures cases { MatchOption result ((n : ℕ) → Number most word.now n → ⊥) (λ n. Number most word.now n) }
+// The number that a word writes, or `largest`, the largest of its type, where it is above.
+fn number<N: TryFrom<u64, Error = TryFromIntError> + Copy>(word: &str, largest: N) -> Option<N>
+    ensures cases { MatchOption result ((x : ℕ) → IsNumber word.now x → ⊥) (λ n. (x : ℕ) × (r : _) × IsNumber word.now x × N.try_from_gives x r × (n ≡ result_unwrap_or r largest)) }
 {
-    match word.parse::<u64>() {
-        Ok(n) => Some(n.min(most)),
-        Err(_) => None,
-    }
+    let number: u64 = word.parse().ok()?;
+    Some(N::try_from(number).unwrap_or(largest))
 }
 
 // A word that names no kind of line.
@@ -37,48 +37,45 @@ impl FromStr for Kind {
     }
 }
 
-// A filling of the Ethernet line.
-fn read_ethernet(heap: Global, words: &[&str]) -> Result<Option<Command>, AllocError>
-    requires first { slice_index_or (texts words.now) 0 [] ≡ codes "ethernet" }
-    ensures understood { IfOk result (Understood (texts words.now)) }
+// A filling of the Ethernet line, from the words behind the first.
+fn read_ethernet(heap: Global, rest: &[&str]) -> Result<Option<Command>, AllocError>
+    ensures understood { IfOk result (Understood (codes "ethernet" ∷ texts rest.now)) }
 {
     let mut codes = Vec::new(heap);
-    for k in 1..words.len() {
-        let Some(code) = number(words[k], 255) else {
+    for word in rest {
+        let Some(code) = number(word, u8::MAX) else {
             return Ok(None);
         };
-        codes.push(code as u8)?;
+        codes.push(code)?;
     }
     Ok(Some(Command::FillEthernet { codes }))
 }
 
-// A filling of the cell line.
-fn read_cell(words: &[&str]) -> Option<Command>
-    requires first { slice_index_or (texts words.now) 0 [] ≡ codes "cell" }
-    ensures understood { Understood (texts words.now) result }
+// A filling of the cell line, from the words behind the first.
+#[tactic(auto, using(crate::proofs::Asked::asked))]
+fn read_cell(rest: &[&str]) -> Option<Command>
+    ensures understood { Understood (codes "cell" ∷ texts rest.now) result }
 {
-    let [_, ports, size, time] = words else {
+    let [ports, size, time] = rest else {
         return None;
     };
-    let ports = number(ports, 255)? as u8;
-    let size = number(size, 65535)? as u16;
-    let time = number(time, 4294967295)? as u32;
+    let ports = number(ports, u8::MAX)?;
+    let size = number(size, u16::MAX)?;
+    let time = number(time, u32::MAX)?;
     Some(Command::FillCell { ports, size, time })
 }
 
-// A question for a wire time.
-fn read_time(words: &[&str]) -> Option<Command>
-    requires first { slice_index_or (texts words.now) 0 [] ≡ codes "time" }
-    ensures understood { Understood (texts words.now) result }
+// A question for a wire time, from the words behind the first.
+#[tactic(auto, using(crate::proofs::Asked::asked))]
+fn read_time(rest: &[&str]) -> Option<Command>
+    ensures understood { Understood (codes "time" ∷ texts rest.now) result }
 {
-    let [_, kind, port, length] = words else {
+    let [kind, port, length] = rest else {
         return None;
     };
-    let Ok(kind) = kind.parse() else {
-        return None;
-    };
-    let port = number(port, 255)? as u8;
-    let length = number(length, 65535)? as u16;
+    let kind = kind.parse().ok()?;
+    let port = number(port, u8::MAX)?;
+    let length = number(length, u16::MAX)?;
     Some(Command::WireTime { kind, port, length })
 }
 
@@ -86,13 +83,13 @@ fn read_time(words: &[&str]) -> Option<Command>
 pub fn read(heap: Global, words: &[&str]) -> Result<Option<Command>, AllocError>
     ensures understood { IfOk result (Understood (texts words.now)) }
 {
-    if words.is_empty() {
+    let Some((first, rest)) = words.split_first() else {
         return Ok(None);
-    }
-    match words[0] {
-        "ethernet" => read_ethernet(heap, words),
-        "cell" => Ok(read_cell(words)),
-        "time" => Ok(read_time(words)),
+    };
+    match *first {
+        "ethernet" => read_ethernet(heap, rest),
+        "cell" => Ok(read_cell(rest)),
+        "time" => Ok(read_time(rest)),
         _ => Ok(None),
     }
 }

@@ -42,10 +42,8 @@ pub fn transcript(heap: Global, input: &str) -> Result<String, AllocError>
 {
     let mut lines = Lines::new();
     let mut text = String::new(heap);
-    let mut number = 0;
-    for line in input.lines() {
-        number += 1;
-        note(&mut lines, heap, number, line, &mut text)?;
+    for (index, line) in input.lines().enumerate() {
+        note(&mut lines, heap, index + 1, line, &mut text)?;
     }
     Ok(text)
 }

@@ -8,9 +8,5 @@ use std::alloc::{AllocError, Global};
 pub fn words_of(heap: Global, line: &str) -> Result<Vec<&str>, AllocError>
     ensures words { IfOk result (λ v. Words line.now (texts v.items)) }
 {
-    let mut words = Vec::new(heap);
-    for word in line.split_whitespace() {
-        words.push(word)?;
-    }
-    Ok(words)
+    line.split_whitespace().collect(heap)
 }

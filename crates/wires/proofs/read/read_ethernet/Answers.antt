@@ -1,35 +1,31 @@
 -- A word that is no number: the words ask for nothing. Otherwise the codes grow word by word.
-use Rattle.std.proofs.Common.{◌≡◌, ℕ, ◌+◌, ◌-◌, ◌<◌, [], length, get_or, vec_items, subst, arith}
-use Rattle.std.proofs.lemmas.List.{length_push}
-use Rattle.wires.proofs.Asked.{length-texts, get_or-texts, some_word, sofar_push, no-ethernet}
+use Rattle.std.proofs.Common.{◌<◌, [], length, get_or, vec_items, arith, rules}
+use Rattle.std.proofs.lemmas.List.{length_push, length-map, get_or-map}
+use Rattle.wires.proofs.Asked.{sofar_push, no_ethernet}
 use Rattle.wires.specs.Orders.{Number, texts}
 use Rattle.wires.proofs.read.read_ethernet.Goals as goal
 
 pub returns-in_default : goal.returns-in_default
 returns-in_default c =
-    let ws = c.args.words.now in
-    let k = c.loop-k.k in
-    let many = length-texts ws in
-    let back : (k - 1) + 1 ≡ k = omega (arith, c.loop-k.invariant.0) in
-    let word = get_or-texts ws k _ (omega arith) in
+    let ws = c.args.rest.now in
+    let k = c.loop-word.word-index in
+    let here : k < length ws = omega arith in
+    let long = length-map ws (λ word. word.now) in
     record {
-      understood = no-ethernet (texts ws) c.requires.first (λ cs h.
-          let here : k - 1 < length cs = omega (arith, h.many) in
-          let number = subst (λ (i : ℕ). Number 255 (get_or (texts ws) i []) (get_or cs (k - 1) 0)) back (h.each (k - 1) here) in
-          c.in_default.ensures.cases (get_or cs (k - 1) 0) (rw word at number));
+      understood = no_ethernet (texts ws) (λ cs many each.
+          let number = each k (omega arith) in
+          let word = get_or-map (λ word. word.now) ws k _ [] here in
+          c.in_default.ensures.cases number.written (rw word at number.number));
     }
 
-pub loop-k-preserved : goal.loop-k-preserved
-loop-k-preserved c =
-    let ws = c.args.words.now in
-    let cs = vec_items c.loop-k.codes in
-    let word = get_or-texts ws c.loop-k.k _ (omega arith) in
-    let new : Number 255 (get_or (texts ws) c.loop-k.k []) c.in-Some.code = rw word c.in-Some.ensures.cases in
+pub loop-word-preserved : goal.loop-word-preserved
+loop-word-preserved c =
+    let ws = c.args.rest.now in
+    let k = c.loop-word.word-index in
+    let cs = vec_items c.loop-word.codes in
+    let new : Number 255 (get_or (texts ws) k []) c.in-Some.code = search (rules, get_or-map) in
     let items = c.in_ok-push.ensures.items in
-    (simp (items, length_push) (omega (arith, c.loop-k.invariant.0)), simp items (sofar_push (texts ws) cs c.in-Some.code c.loop-k.k c.loop-k.invariant.1 c.loop-k.invariant.0 new))
+    (simp (items, length_push) (omega (arith, c.loop-word.invariant.0)), simp items (sofar_push (texts ws) cs c.in-Some.code k c.loop-word.invariant.1 c.loop-word.invariant.0 new))
 
 pub returns : goal.returns
-returns c =
-    let many = length-texts c.args.words.now in
-    let some = some_word (texts c.args.words.now) c.requires.first in
-    record { understood = record { first = c.requires.first; many = omega (arith, c.loop-k.invariant.0); each = c.loop-k.invariant.1 } }
+returns c = search (rules, length-map)

@@ -1,8 +1,8 @@
 -- The codes so far are the numbers of the words so far.
-use Rattle.std.proofs.Common.{◌≡◌, ◌+◌, length, vec_items}
+use Rattle.std.proofs.Common.{◌≡◌, length, vec_items}
 use Rattle.wires.specs.Orders.{texts}
 use Rattle.wires.proofs.Asked.{Sofar}
 use Rattle.wires.proofs.read.read_ethernet.Given as goal
 
-abbrev pub invariant-loop-k : goal.invariant-loop-k
-invariant-loop-k l = (length (vec_items l.codes) + 1 ≡ l.k) × Sofar (texts l.words) (vec_items l.codes)
+abbrev pub invariant-loop-word : goal.invariant-loop-word
+invariant-loop-word l = (length (vec_items l.codes) ≡ l.word-index) × Sofar (texts l.rest) (vec_items l.codes)

@@ -1,9 +1,10 @@
--- The rest of the input follows what is told so far, and no number is above the octets read.
-use Rattle.std.proofs.Common.{◌+◌, ◌≤◌, string_bytes}
+-- The rest of the input follows what is told so far.
+use Rattle.std.proofs.Common.{◌+◌, string_bytes}
+use Rattle.std.specs.Iterator.Adapters.{enumerate_source, enumerate_count}
 use Rattle.std.specs.Str.Iter.{lines_rest}
 use Rattle.wires.proofs.Lined.{Follows}
 use Rattle.wires.proofs.transcript.transcript.Given as goal
 
-abbrev pub invariant-loop-line : goal.invariant-loop-line
-invariant-loop-line l =
-    Follows l.input (lines_rest l.line-iterator) (l.number + 1) l.lines (string_bytes l.text) × (l.number + (goal.iterator-loop-line).remaining l.line-iterator ≤ (goal.iterator-loop-line).remaining l.initial.line-iterator)
+abbrev pub invariant-loop-index : goal.invariant-loop-index
+invariant-loop-index l =
+    Follows l.input (lines_rest (enumerate_source l.index-iterator)) (enumerate_count l.index-iterator + 1) l.lines (string_bytes l.text)
