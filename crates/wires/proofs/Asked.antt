@@ -1,21 +1,12 @@
--- Words of a slice, and words that ask for no command.
+-- The codes of the words read so far, and words that ask for no command.
 -- Assumes nothing.
-use Rattle.std.proofs.Common.{◌≡◌, ℕ, zero, suc, ◌+◌, ◌<◌, List, [], ◌∷◌, ◌++◌, length, get_or, None, codes, refl, ap, arith, Bor}
+use Rattle.std.proofs.Common.{◌≡◌, ℕ, ◌<◌, List, [], ◌∷◌, ◌++◌, length, get_or, None, codes, arith}
 use native.Mathlib.Decide.{dec_lt}
 use native.Mathlib.Numerals.{unary_clauses}
-use Rattle.std.proofs.lemmas.List.{get_or_append_left, get_or_push, length_push}
-use Rattle.wires.specs.Orders.{texts, Number, EthernetWords, CellWords, TimeWords, Understood}
+use Rattle.std.proofs.lemmas.List.{get_or_append_left, get_or_push, length_push, length-map, get_or-map}
+use Rattle.wires.specs.Orders.{Number, CellWords, TimeWords, Understood}
 use Rattle.wires.specs.declared.command.Command.TheVariants.{FillEthernet, FillCell, WireTime}
 use Rattle.wires.specs.declared.command.Kind.{Kind}
-
-pub length_texts : (ws : List (Bor (List ℕ))) → length (texts ws) ≡ length ws
-length_texts [] = refl
-length_texts (word ∷ ws) = ap suc (length_texts ws)
-
-pub get_or_texts : (ws : List (Bor (List ℕ))) (k : ℕ) (d : Bor (List ℕ)) → k < length ws → get_or (texts ws) k [] ≡ (get_or ws k d).now
-get_or_texts [] k d lt = absurd (omega arith)
-get_or_texts (word ∷ ws) zero d lt = refl
-get_or_texts (word ∷ ws) (suc k) d lt = get_or_texts ws k d (omega arith)
 
 -- the first words write the codes so far
 abbrev pub Sofar : List (List ℕ) → List ℕ → Type 0
@@ -35,15 +26,18 @@ sofar_push ws cs n k old next new j lt =
 module _ (ws : List (List ℕ)) where
   pub no_ethernet : ((cs : List ℕ) → length cs ≡ length ws → Sofar ws cs → ⊥) → Understood (codes "ethernet" ∷ ws) None
   no_ethernet wrong (FillEthernet v) h = wrong _ (omega (arith, h.many)) (λ j lt. let number = h.each j lt in simp unary_clauses at number)
-  no_ethernet wrong (FillCell a b c) h = let f = h.first in let bad : ◌≡◌ {A = ℕ} 101 99 = cc in absurd (omega arith)
-  no_ethernet wrong (WireTime k q l) h = let f = h.first in let bad : ◌≡◌ {A = ℕ} 101 116 = cc in absurd (omega arith)
+  no_ethernet wrong (FillCell a b c) h = grind arith
+  no_ethernet wrong (WireTime k q l) h = grind arith
 
   pub no_cell : ((N z w : ℕ) → CellWords (codes "cell" ∷ ws) N z w → ⊥) → Understood (codes "cell" ∷ ws) None
-  no_cell wrong (FillEthernet v) h = let f = h.first in let bad : ◌≡◌ {A = ℕ} 99 101 = cc in absurd (omega arith)
+  no_cell wrong (FillEthernet v) h = grind arith
   no_cell wrong (FillCell a b c) h = wrong a b c h
-  no_cell wrong (WireTime k q l) h = let f = h.first in let bad : ◌≡◌ {A = ℕ} 99 116 = cc in absurd (omega arith)
+  no_cell wrong (WireTime k q l) h = grind arith
 
   pub no_time : ((k : Kind) (q l : ℕ) → TimeWords (codes "time" ∷ ws) k q l → ⊥) → Understood (codes "time" ∷ ws) None
-  no_time wrong (FillEthernet v) h = let f = h.first in let bad : ◌≡◌ {A = ℕ} 116 101 = cc in absurd (omega arith)
-  no_time wrong (FillCell a b c) h = let f = h.first in let bad : ◌≡◌ {A = ℕ} 116 99 = cc in absurd (omega arith)
+  no_time wrong (FillEthernet v) h = grind arith
+  no_time wrong (FillCell a b c) h = grind arith
   no_time wrong (WireTime k q l) h = wrong k q l h
+
+-- for `grind`: the words of a slice, and what another first word or another count of words comes to
+pub ruleset asked = (length-map, get_or-map, no_cell, no_time)

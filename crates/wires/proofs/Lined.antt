@@ -1,12 +1,12 @@
--- One word more of a line, and one line more of the input.
+-- The words of a line, and one line more of the input.
 -- Assumes nothing.
 use Rattle.std.proofs.Common.{◌≡◌, ℕ, ◌+◌, ◌<◌, List, [], ◌∷◌, ◌++◌, length, sym, refl, ap, Bor, None, Ok, Err, Result, Vec, vec_items, IfOk, ◌∙◌, subst, append_assoc}
 use Rattle.std.specs.Str.Lines.{IsFirstLine}
-use Rattle.std.specs.Char.{is_whitespace, is_not_whitespace}
-use Rattle.std.specs.Str.{NoCharPasses, EmptyOrStartsWithPassing}
+use Rattle.std.specs.Char.{is_not_whitespace}
+use Rattle.std.specs.Str.{NoCharPasses}
 use Rattle.wires.specs.Answers.{told}
 use Rattle.wires.specs.Transcript.{Cut, Noted, Recorded, Transcript}
-use Rattle.wires.specs.Words.{Words, First}
+use Rattle.wires.specs.Words.{Words}
 use Rattle.wires.specs.Orders.{texts}
 use Rattle.std.specs.Str.Iter.{split_whitespace_rest, split_whitespace_steps}
 use Rattle.std.specs.declared.str.SplitWhitespace.{SplitWhitespace}

@@ -1,6 +1,6 @@
 -- Which words ask for which command.
 -- Assumes nothing.
-use Rattle.std.specs.Prelude.{◌≡◌, ℕ, ◌+◌, ◌^◌, ◌<◌, min, List, [], ◌∷◌, length, Some, None, vec_items, codes, Option, slice_index, slice_index_or}
+use Rattle.std.specs.Prelude.{◌≡◌, ℕ, ◌+◌, ◌^◌, ◌<◌, min, List, [], length, Some, None, vec_items, codes, Option, slice_index, slice_index_or, map}
 use Rattle.std.specs.Borrow.{Bor}
 use Rattle.std.specs.Str.Parse.{IsNumeral, digits_value, without_leading_plus}
 use Rattle.wires.specs.Answers.{name}
@@ -10,8 +10,7 @@ use Rattle.wires.specs.declared.command.Kind.{Kind}
 
 -- the octets of each word of a slice
 abbrev pub texts : List (Bor (List ℕ)) → List (List ℕ)
-texts [] = []
-texts (word ∷ ws) = word.now ∷ texts ws
+texts ws = map (λ word. word.now) ws
 
 -- a word writes the number x, below 2^64, in decimal digits, perhaps after a plus sign
 pub record IsNumber (word : List ℕ) (x : ℕ) : Type 0 where

@@ -10,7 +10,7 @@ use std::alloc::{AllocError, Global};
 use std::num::TryFromIntError;
 use std::str::FromStr;
 
-// The number that a word writes, or the largest of its type where it is above.
+// The number that a word writes, or `largest`, the largest of its type, where it is above.
 fn number<N: TryFrom<u64, Error = TryFromIntError> + Copy>(word: &str, largest: N) -> Option<N>
     ensures cases { MatchOption result ((x : ℕ) → IsNumber word.now x → ⊥) (λ n. (x : ℕ) × (r : _) × IsNumber word.now x × N.try_from_gives x r × (n ≡ result_unwrap_or r largest)) }
 {
@@ -52,7 +52,7 @@ fn read_ethernet(heap: Global, rest: &[&str]) -> Result<Option<Command>, AllocEr
 }
 
 // A filling of the cell line, from the words behind the first.
-#[tactic(auto, using(crate::proofs::Asked::length_texts, crate::proofs::Asked::get_or_texts, crate::proofs::Asked::no_cell))]
+#[tactic(auto, using(crate::proofs::Asked::asked))]
 fn read_cell(rest: &[&str]) -> Option<Command>
     ensures understood { Understood (codes "cell" ∷ texts rest.now) result }
 {
@@ -66,7 +66,7 @@ fn read_cell(rest: &[&str]) -> Option<Command>
 }
 
 // A question for a wire time, from the words behind the first.
-#[tactic(auto, using(crate::proofs::Asked::length_texts, crate::proofs::Asked::get_or_texts, crate::proofs::Asked::no_time))]
+#[tactic(auto, using(crate::proofs::Asked::asked))]
 fn read_time(rest: &[&str]) -> Option<Command>
     ensures understood { Understood (codes "time" ∷ texts rest.now) result }
 {
