@@ -37,6 +37,10 @@ module _ (net : Network) (most : ℕ) (flows : List Flow) (x : Offered) where
   unfolding found
   answer-held named = answer-found named refl refl
 
+  pub answer_full : held x.number flows ≡ false → leb 64 (length flows) ≡ true → answer net most flows x ≡ Err Full
+  unfolding found
+  answer_full new full = answer-found new full refl
+
   pub answer-unfit : {e : PlanFault} → held x.number flows ≡ false → leb 64 (length flows) ≡ false → unfit net most x ≡ Some e → answer net most flows x ≡ Err e
   unfolding found
   answer-unfit new room bad = answer-found new room bad

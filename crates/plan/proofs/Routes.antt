@@ -3,8 +3,9 @@
 use Rattle.std.proofs.Common.{◌≡◌, ℕ, zero, suc, ◌+◌, ◌<◌, ◌≤◌, Bool, true, false, cond, ◌||◌, eqb, ltb, leb, List, [], ◌∷◌, map, position, reverse, length, get_or, take, drop, Some, None, sym, refl, ap, ◌∙◌, subst, add-one, arith, length-take}
 use mathlib.Core.List.{reverse_aux}
 use lib.ListN.{length-map}
-use Rattle.std.specs.List.{enumerate_from, list_any, position_from}
-use Rattle.std.proofs.lemmas.List.{reverse-append, take_more, at_drop_all, at_drop_more, get_or-map, get_or-take}
+use Rattle.std.specs.List.{IsAnyAnswer, enumerate_from, list_any, position_from}
+use Rattle.std.proofs.lemmas.Bool.{le-leb, lt-leb, or_from, or_left, or_right}
+use Rattle.std.proofs.lemmas.List.{map-id, reverse-append, take_more, at_drop_all, at_drop_more, get_or-map, get_or-take}
 use Rattle.std.proofs.lemmas.Iterator.Adapters.{position_from-zero}
 use Rattle.network.specs.Flows as network
 use Rattle.network.proofs.Lists.{At-get_or}
@@ -13,6 +14,7 @@ use Rattle.planning.specs.Offers.{misrouted, overlong}
 use Rattle.planning.proofs.Routes.{misrouted-none, overlong-none}
 use Rattle.plan.specs.declared.row.Hop.{Hop}
 use Rattle.plan.specs.Rows.{hop, blank}
+use Rattle.plan.proofs.Any.{any_true, any_false}
 
 -- the first overlong hop is the first whose wire time is above the period
 pub overlong-position : (T : ℕ) (hops : List Hop) → overlong T 0 (map hop hops) ≡ position (λ h. ltb T h.wire) hops
@@ -50,6 +52,14 @@ any-list_any : {A : Type 0} (p : A → Bool) (xs : List A) → any p xs ≡ list
 any-list_any p [] = refl
 any-list_any p (x ∷ xs) = ap (λ (b : Bool). p x || b) (any-list_any p xs)
 
+-- whether a port stands among others
+any_stands : (ports : List ℕ) (q : ℕ) (stands : Bool) → IsAnyAnswer (λ r b. eqb r q ≡ b) ports stands → any (λ r. eqb r q) ports ≡ stands
+any_stands ports q stands cases = sym (ap (any (λ r. eqb r q)) (map-id ports)) ∙ go stands cases
+  where
+    go : (stands : Bool) → IsAnyAnswer (λ r b. eqb r q ≡ b) ports stands → any (λ r. eqb r q) (map (λ (r : ℕ). r) ports) ≡ stands
+    go true some = any_true (λ r. eqb r q) (λ r. r) 0 ports some.0 some.1 (some.2 0)
+    go false none = any_false (λ r. eqb r q) (λ r. r) 0 ports (λ j within. none j 0 (omega arith) within)
+
 -- what the search for a misrouted hop does at hop k
 misrouted-at : (N : ℕ) (route : List ℕ) (k : ℕ) (bad : Bool) → k < length route → (leb N (get_or route k 0) || any (λ r. eqb r (get_or route k 0)) (take k route)) ≡ bad →
     misrouted N (reverse (take k route)) k (drop k route) ≡ elim bad [ true ↦ Some k | false ↦ misrouted N (reverse (take (k + 1) route)) (k + 1) (drop (k + 1) route) ]
@@ -64,6 +74,20 @@ misrouted-at N route k bad within test =
 
     rest : List ℕ
     rest = drop (k + 1) route
+
+-- a port that is not one of N
+pub misrouted_absent : (N : ℕ) (route : List ℕ) (k : ℕ) → k < length route → N ≤ get_or route k 0 → misrouted N (reverse (take k route)) k (drop k route) ≡ Some k
+misrouted_absent N route k within absent = misrouted-at N route k true within (or_left _ _ (le-leb N _ absent))
+
+-- a port that stands earlier
+pub misrouted_twice : (N : ℕ) (route : List ℕ) (k : ℕ) (stands : Bool) → k < length route → stands ≡ true → IsAnyAnswer (λ r b. eqb r (get_or route k 0) ≡ b) (take k route) stands →
+    misrouted N (reverse (take k route)) k (drop k route) ≡ Some k
+misrouted_twice N route k stands within found cases = misrouted-at N route k true within (or_right _ _ (any_stands (take k route) _ _ cases ∙ found))
+
+-- a port of N that does not
+pub misrouted_more : (N : ℕ) (route : List ℕ) (k : ℕ) (stands : Bool) → k < length route → get_or route k 0 < N → stands ≡ false → IsAnyAnswer (λ r b. eqb r (get_or route k 0) ≡ b) (take k route) stands →
+    misrouted N (reverse (take k route)) k (drop k route) ≡ misrouted N (reverse (take (k + 1) route)) (k + 1) (drop (k + 1) route)
+misrouted_more N route k stands within present missing cases = misrouted-at N route k false within (or_from _ _ (lt-leb N _ present) (any_stands (take k route) _ _ cases ∙ missing))
 
 -- the test of a hop and its port: the port is not one of N, or stands earlier in the route
 abbrev pub bad_hop : ℕ → List ℕ → ℕ × ℕ → Bool

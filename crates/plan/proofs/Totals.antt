@@ -3,14 +3,29 @@
 use Rattle.std.specs.Prelude.{None, Option, Some, unwrap_or}
 use Rattle.std.specs.Option.{option_map}
 use Rattle.std.specs.List.{fold, reduce, filter}
-use Rattle.std.proofs.Common.{◌≡◌, ℕ, Bool, true, false, cond, zero, suc, ◌+◌, max, List, [], ◌∷◌, map, length, get_or, sym, refl, ap, ◌∙◌, arith}
+use Rattle.std.proofs.Common.{◌≡◌, ℕ, Bool, true, false, cond, zero, suc, ◌+◌, ◌<◌, ◌≤◌, max, List, [], ◌∷◌, map, length, get_or, take, sym, refl, ap, ◌∙◌, arith, length-take}
+use lib.ListN.{length-map}
+use Rattle.std.proofs.lemmas.List.{get_or-map, get_or-take, get_or_past}
 use Rattle.network.specs.Flows.{Network, arrival, total}
 use Rattle.planning.specs.Offers.{flowspan}
+use Rattle.planning.specs.Setups as planning
 use Rattle.plan.specs.declared.row.Hop.{Hop}
 use Rattle.plan.specs.declared.row.Row.{Row}
 use Rattle.plan.specs.declared.row.State.{State}
 use Rattle.plan.specs.declared.row.State.TheVariants.{Free, Held}
+use Rattle.plan.specs.declared.setup.Port.{Port}
+use Rattle.plan.specs.Ports as stored
 use Rattle.plan.specs.Rows.{hop, flow, flows}
+
+-- a port below the count is the one that is stored
+pub port-stored : (ports : List Port) (n q : ℕ) → n ≤ length ports → q < n → get_or (map stored.port (take n ports)) q planning.blank ≡ stored.port (get_or ports q stored.blank)
+port-stored ports n q fits below =
+    get_or-map stored.port (take n ports) q stored.blank planning.blank (simp length-take (omega arith))
+    ∙ ap stored.port (get_or-take n ports q stored.blank below)
+
+-- any other is not there
+pub port_absent : (ports : List Port) (n q : ℕ) → n ≤ q → get_or (map stored.port (take n ports)) q planning.blank ≡ planning.blank
+port_absent ports n q past = get_or_past (map stored.port (take n ports)) q planning.blank (simp (length-map, length-take) (omega arith))
 
 -- the total time is that of the last hop
 pub total-last : (net : Network) (hops : List Hop) (n : ℕ) (last : Hop) → n + 1 ≡ length hops → last ≡ get_or hops n last → total net (map hop hops) ≡ last.offset + arrival net (hop last)

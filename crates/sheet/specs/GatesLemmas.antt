@@ -3,6 +3,7 @@ use Rattle.std.specs.Prelude.{◌≡◌, ◌≢◌, ℕ, ◌+◌, ◌*◌, ◌/�
 use Rattle.std.proofs.Common.{sym, ap, subst, ◌∙◌, arith}
 use Rattle.fault.specs.declared.kinds.RecordFault.{RecordFault}
 use Rattle.fault.specs.declared.kinds.RecordFault.TheVariants.{OutOfLimits}
+use Rattle.sheet.specs.declared.limited.Limited.{Limited}
 use Rattle.sheet.specs.declared.gate.GateRecord.{GateRecord}
 use Rattle.sheet.specs.declared.gate.GateState.{GateState}
 use Rattle.sheet.specs.declared.gate.GateState.TheVariants.{Scheduled, BestEffort, Closed}
@@ -97,6 +98,22 @@ apart s o l =
     let fourth = o 3 in
     let fifth = o 4 in
     record { state = omega arith; spare = omega arith; duration = omega arith }
+
+-- the reading, from the state octet and the word
+module _ (k : ℕ) (s : List ℕ) (o : Octets s) (l : length s ≡ 5) (w : ℕ) (is_IsWord : w ≡ word s) (t : GateState) (is_state : t ≡ state_of (slice_index s 0)) where
+  pub gate_reading :
+      (j : Result (Unit {0}) RecordFault) (z : Limited) (ls : List Limited)
+      → z ≡ zero_at 8 (w / 1073741824) → ls ≡ gate_limits (slice_index s 0) (record { state = t; duration = w % 1073741824 })
+      → j ≡ judged k (z ∷ []) ls → accepted j (record { state = t; duration = w % 1073741824 }) ≡ read_gate k s
+  gate_reading j z ls zero limits e =
+      let a = apart s o l in
+      let state : t ≡ state_of (field 5 0 8 s) = is_state ∙ ap state_of (sym a.state) in
+      let duration : w % 1073741824 ≡ field 5 10 30 s = ap (λ (v : ℕ). v % 1073741824) is_IsWord ∙ sym a.duration in
+      let spare : w / 1073741824 ≡ field 5 8 2 s = ap (λ (v : ℕ). v / 1073741824) is_IsWord ∙ sym a.spare in
+      let same : record { state = t; duration = w % 1073741824 } ≡ gate_of s
+      = λ i. record { state = state i; duration = duration i } in
+      let zeros : z ∷ [] ≡ gate_spare s = (λ i. zero i ∷ []) ∙ (λ i. zero_at 8 (spare i) ∷ []) in
+      reading_from 5 k s j l zeros (limits ∙ (λ i. gate_limits (sym a.state i) (same i))) same e
 
 -- the readings of five octets whose spare bits are zero, from the state octet and the word
 module _ (k : ℕ) (s : List ℕ) (o : Octets s) (l : length s ≡ 5) (w : ℕ) (is_IsWord : w ≡ word s) (spare_zero : w / 1073741824 ≡ 0) where

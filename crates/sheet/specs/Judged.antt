@@ -1,5 +1,5 @@
 -- What an accepted record says of its fields, and what makes it accepted.
-use Rattle.std.specs.Prelude.{◌≡◌, ◌≢◌, ℕ, ◌<◌, ◌≤◌, Bool, true, false, cond, ◌||◌, List, [], ◌∷◌, length, Some, None, Ok, Err, Option, Result, option_map, ◌==◌, nat_lt, refl}
+use Rattle.std.specs.Prelude.{◌≡◌, ◌≢◌, ℕ, ◌<◌, ◌≤◌, Bool, true, false, cond, ◌||◌, List, [], ◌∷◌, length, Some, None, Ok, Err, Option, Result, find, option_map, ◌==◌, nat_lt, refl}
 use Rattle.std.proofs.Common.{sym, ap, ◌∙◌, ⊎_elim, arith}
 use Rattle.std.proofs.lemmas.Bool.{cases_lt, ltb-false, le-ltb, lt-ltb, eqb-true, eq-eqb, cond-true}
 use Rattle.fault.specs.declared.kinds.RecordFault.{RecordFault}
@@ -13,10 +13,15 @@ abbrev pub Inside : List Limited → Type 0
 Inside [] = Unit {0}
 Inside (f ∷ fs) = (f.least ≤ f.value) × (f.value ≤ f.most) × Inside fs
 
--- the first of some fields is inside where no field is outside, and so are the others
-none_outside : (b : Bool) (f : Limited) (o : Option Limited) → option_map (λ (x : Limited). x.bit) (cond b (Some f) o) ≡ None → (b ≡ false) × (option_map (λ (x : Limited). x.bit) o ≡ None)
-none_outside true f o e = let z : ◌≡◌ {A = ℕ} 0 1 = cc in absurd (omega arith)
-none_outside false f o e = (refl, e)
+-- a test that picks something else failed
+else_from_none : (b : Bool) (v : ℕ) (o : Option ℕ) → cond b (Some v) o ≡ None → (b ≡ false) × (o ≡ None)
+else_from_none true v o e = let z : ◌≡◌ {A = ℕ} 0 1 = cc in absurd (omega arith)
+else_from_none false v o e = (refl, e)
+
+-- the bit of a field that a test picks
+bit-picked : (b : Bool) (f : Limited) (o : Option Limited) → option_map (λ (x : Limited). x.bit) (cond b (Some f) o) ≡ cond b (Some f.bit) (option_map (λ (x : Limited). x.bit) o)
+bit-picked true f o = refl
+bit-picked false f o = refl
 
 either-false : (a b : Bool) → (a || b) ≡ false → (a ≡ false) × (b ≡ false)
 either-false true b e = let z : ◌≡◌ {A = ℕ} 0 1 = cc in absurd (omega arith)
@@ -25,14 +30,18 @@ either-false false b e = (refl, e)
 pub inside_from_none : (fs : List Limited) → first_outside fs ≡ None → Inside fs
 inside_from_none [] e = tt
 inside_from_none (f ∷ fs) e =
-    let here = none_outside (is_outside f) f _ e in
+    let here = else_from_none (is_outside f) f.bit (first_outside fs) (sym (bit-picked (is_outside f) f (find is_outside fs)) ∙ e) in
     let both = either-false (nat_lt f.value f.least) (nat_lt f.most f.value) here.0 in
     (ltb-false f.value f.least both.0, ltb-false f.most f.value both.1, inside_from_none fs here.1)
 
+-- one field more is inside its limits
+pub outside_next :
+    (f : Limited) (fs : List Limited) → f.least ≤ f.value → f.value ≤ f.most → first_outside (f ∷ fs) ≡ first_outside fs
+outside_next f fs low high = rw (le-ltb f.value f.least low, le-ltb f.most f.value high)
+
 pub none_from_inside : (fs : List Limited) → Inside fs → first_outside fs ≡ None
 none_from_inside [] i = refl
-none_from_inside (f ∷ fs) i =
-    rw (le-ltb f.value f.least i.0, le-ltb f.most f.value i.1) (none_from_inside fs i.2)
+none_from_inside (f ∷ fs) i = outside_next f fs i.0 i.1 ∙ none_from_inside fs i.2
 
 -- what is judged without a fault
 pub record Clean (zeros limits : List Limited) : Type 0 where
