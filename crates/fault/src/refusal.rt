@@ -14,7 +14,8 @@ pub enum Layer {
     Plan,
 }
 
-// Where a fault lies: the record's index and the first bit of the field, or the hop. What a fault does not have is 0.
+// Where a fault lies: the record's index and the first bit of the field, or the hop. What a fault does not have is 0: so a
+// place is printed and sent.
 #[derive(Clone, Copy, PartialEq, Eq, Debug)]
 pub struct Place {
     pub index: usize,

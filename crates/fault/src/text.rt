@@ -39,7 +39,8 @@ impl fmt::Display for RecordFault {
 }
 
 impl PlanFault {
-    // The sentence of a fault of the plan layer that has no place.
+    // The sentence of a fault of the plan layer that has no place, and no text for the others: `fmt` has seen their variants
+    // before it asks, so an Option would only be taken apart there.
     fn advice(&self) -> &'static str
         ensures value { result.now ≡ advice self.now }
     {

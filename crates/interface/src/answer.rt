@@ -17,7 +17,7 @@ pub(crate) fn answer_octets(answer: Answer) -> [u8; SIZE]
     }
 }
 
-// What a call that was done answers: what its number is, and its number.
+// What a call that was done answers: what its number is, by the numbers of the format for C, and its number.
 fn reply_octets(reply: Reply) -> [u8; SIZE]
     ensures value { result ≡ reply_octets reply }
 {

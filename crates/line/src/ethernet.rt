@@ -12,7 +12,7 @@ pub enum Rate {
     Mb1000,
 }
 
-// Ports 0 to `ports` − 1 with the rates at the front of `rates`.
+// Ports 0 to `ports` − 1 with the rates at the front of `rates`: no heap, and a line is copied.
 #[derive(Clone, Copy)]
 pub struct Ethernet {
     ports: u8,

@@ -13,6 +13,7 @@ pub trait Line {
     // The number of ports, and a wire time in nanoseconds for each port and length.
     ghost meaning: { Self → Meaning };
 
+    // This and the next two say that they leave the line as it is, which is one of the rules of a line.
     fn ports(&self) -> u8
         ensures value { result ≡ (meaning self.now).ports }
         ensures same { self.exit.now ≡ self.entry.now };
@@ -25,6 +26,7 @@ pub trait Line {
         port < self.ports() && (64..=Self::LARGEST).contains(&length)
     }
 
+    // The wire time of a frame that the line carries, and of any other 0: the rules speak of every port and length.
     fn wire_time(&self, port: u8, length: u16) -> u32
         ensures value { result ≡ (meaning self.now).time port length }
         ensures same { self.exit.now ≡ self.entry.now };

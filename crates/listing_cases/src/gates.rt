@@ -12,7 +12,7 @@ const SHORT: PortRecord = PortRecord {
     ..PORT
 };
 
-// What is printed of the gate lists of an input is this text.
+// What is printed of the gate lists of an input is this text: one line, as the check of a listing is.
 fn check_lists(rt: &impl Abort, heap: Global, octets: &[u8], text: &str) -> Result<(), Fail> {
     assert_eq!(rt; gate_lists(heap, octets)?.as_str(), text);
     Ok(())

@@ -8,7 +8,7 @@ use crate::setup::Port;
 use fault::PlanFault;
 use sheet::{PortRecord, Reader, RecordKind, whole_records};
 
-// How many ports the sheet has, the first 32 of them, and the greatest best-effort length.
+// How many ports the sheet has, the first 32 of them, without the heap, and the greatest best-effort length.
 #[derive(Clone, Copy)]
 pub(crate) struct Figures {
     pub count: usize,
@@ -23,6 +23,7 @@ pub(crate) fn read_ports(sheet: &[u8]) -> Result<Figures, PlanFault>
     let count = whole_records::<PortRecord>(sheet)?;
     let mut ports = [Port::default(); 32];
     let mut longest = 0;
+    // By the index of a record, which names the first faulty one.
     for k in 0..count {
         let record = Reader::new(sheet, k).read::<PortRecord>()?;
         if k < ports.len() {

@@ -85,7 +85,7 @@ impl<'a> PortGates<'a> {
     ghost use Rattle.plan.specs.GateLists.{list, left};
     ghost use Rattle.plan.specs.GateOctets.{gate, gate_octets, count_answer};
 
-    // What is seen of the hops of every held flow.
+    // What is seen of the hops of every held flow: a fold as over the hops of one, but of rows, some of which are free.
     fn see(&self, place: u32) -> Look
         ensures left { result.left ≡ left_on (flows self.now.rows.now) self.now.port place }
         ensures next { result.next ≡ next_on (flows self.now.rows.now) self.now.port place }
@@ -158,6 +158,7 @@ impl<'a> PortGates<'a> {
         if 5 * count > buffer.len() {
             return Err(PlanFault::Buffer);
         }
+        // By the index of a record: the library says nothing of a slice after `chunks_exact_mut`.
         for (k, record) in self.records().enumerate() {
             // Within its limits, and with room for it, it is never refused.
             let _ = record.write(&mut buffer[5 * k..]);

@@ -26,7 +26,7 @@ impl From<PortRecord> for Port {
     }
 }
 
-// The cycle, and the ports at the front of `ports`.
+// The cycle, and the ports at the front of `ports`: no heap, so there is room for as many as a line can have.
 #[derive(Clone, Copy)]
 pub(crate) struct Setup {
     pub cycle: u32,

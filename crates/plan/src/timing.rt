@@ -10,7 +10,7 @@ use crate::offer::Offer;
 use crate::row::Hop;
 use line::Line;
 
-// The hops of a route, the first of them at the front, and its total time.
+// The hops of a route, the first of them at the front, without the heap, and its total time.
 #[derive(Clone, Copy)]
 pub(crate) struct Timing {
     pub hops: [Hop; 8],

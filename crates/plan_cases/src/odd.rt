@@ -10,7 +10,7 @@ use line::Line;
 use sheet::{FlowRecord, GateState, PortRecord};
 use std::test::Fail;
 
-// Two ports that take 101 and 233 ns for every frame of 64 to 777 octets.
+// Two ports that take 101 and 233 ns for every frame of 64 to 777 octets: other numbers, by another formula, than any other line.
 #[derive(Clone, Copy)]
 pub struct Odd;
 

@@ -18,6 +18,7 @@ fn add_records<K: RecordKind + fmt::Display + Drop>(
     ensures made { IfOk result (λ fault. string_bytes lines.new ++ last_line fault ≡ string_bytes lines.old ++ listing_by K.RecordKind.SIZE K.RecordKind.reading (λ x. unwrap_or (K.Display.output x) []) sheet.now) }
 {
     let count = sheet.len() / K::SIZE;
+    // By the index of a record, which its fault tells.
     for index in 0..count {
         match Reader::new(sheet, index).read::<K>() {
             Ok(record) => writeln!(lines, "{record}")?,
@@ -43,7 +44,7 @@ fn list_records<K: RecordKind + fmt::Display + Drop>(
 }
 
 impl Kind {
-    // The lines of a sheet of this kind.
+    // The lines of a sheet of this kind, which is known when the program runs: a match picks the instance.
     pub fn listing(self, heap: Global, sheet: &[u8]) -> Result<String, AllocError>
         ensures made { IfOk result (λ t. string_bytes t ≡ listing_of self sheet.now) }
     {

@@ -52,7 +52,7 @@ pub(crate) struct AnswerLines<'a> {
 }
 
 impl<'a> AnswerLines<'a> {
-    // The number of a flow record, and 0 where it is refused.
+    // The number of a flow record, and 0 where it is refused, as a listing prints it.
     fn number_of(&self, index: usize) -> u16
         ensures value { result ≡ number_of self.now.flows.now index }
     {

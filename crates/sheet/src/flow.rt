@@ -12,7 +12,8 @@ use crate::limited::{Limited, judge};
 use fault::{PlanFault, RecordFault, SheetFault};
 use std::array;
 
-// A slot of the route.
+// A slot of the route. That it is below 8 stands here and at the two functions of a slot below: a type for it would be taken
+// apart again in each.
 fn port(octets: &[u8; 21], slot: usize) -> u8
     requires slot { slot < 8 }
     ensures value { result ≡ field_of 21 (125 + 5 * slot) 5 octets.now }
@@ -28,6 +29,7 @@ pub struct FlowRecord {
     pub deadline: u32,
     // The chosen start, or none where it is left to the planner.
     pub start: Option<u32>,
+    // The hop count and all eight slots, as the record has them: a faulty one can be told, and refused.
     pub hops: u8,
     pub ports: [u8; 8],
 }
@@ -85,7 +87,7 @@ impl FlowRecord {
         Limited::new(125 + 5 * slot, u32::from(port), 0, 31)
     }
 
-    // A slot from the hop count on, which must be zero.
+    // A slot from the hop count on, which must be zero. Unlike a used one it has no limits but 0, so the two are not one function.
     fn unused(&self, slot: u16) -> Limited
         requires slot { slot < 8 }
         ensures value { result ≡ zero_at (125 + 5 * slot) (unused_slot self.now slot) }

@@ -22,7 +22,8 @@ pub trait RecordKind: Sized {
     // The octets of a record that may be written.
     ghost written: { Self → List ℕ };
 
-    // The record with this index in its sheet, from exactly its octets.
+    // The record with this index in its sheet, from exactly its octets. Each kind begins with a test of its own, since it takes
+    // them as an array or a pattern of its own length.
     fn read(index: usize, octets: &[u8]) -> Result<Self, RecordFault>
         ensures value { result ≡ reading index octets.now };
 

@@ -17,7 +17,8 @@ fn judge_all<K: RecordKind>(records: &[K]) -> Result<(), RecordFault>
     Ok(())
 }
 
-// Puts a record that may be written to its place in a buffer that is long enough.
+// Puts a record that may be written to its place in a buffer that is long enough. By its index: the library says nothing of a
+// slice after `chunks_exact_mut`.
 fn put_record<K: RecordKind>(item: &K, index: usize, buffer: &mut [u8])
     requires judged { K.judging 0 item.now ≡ Ok tt }
     requires room { index * K.SIZE + K.SIZE ≤ length buffer.old }

@@ -3,7 +3,7 @@ use crate::edge::{accepted, refused, told};
 use sheet::{FlowRecord, RecordKind};
 use std::process::Abort;
 
-// The first 16 octets and the last 5.
+// The first 16 octets and the last 5, in two numbers, so that a case is one line.
 const ACCEPTED: [(u128, u64); 3] = [
     // each field at its least
     (0x00010100_00000010_00000060_00000008, 0x00_00000000),

@@ -6,6 +6,7 @@ use crate::command::Kind;
 use fault::PlanFault;
 use std::fmt;
 
+// Each is a line of the output of its own: a refused filling too, and so no Err.
 #[derive(Clone, Copy)]
 pub enum Answer {
     // The line now has so many ports.

@@ -40,7 +40,7 @@ impl Lines {
         }
     }
 
-    // Does what a command asks; a refused filling changes nothing.
+    // Does what a command asks; a refused filling changes nothing. A command is a value that was read, so a match takes it apart.
     pub fn perform(&mut self, command: &Command) -> Answer
         ensures performed { Performed command.now self.old result self.new }
     {

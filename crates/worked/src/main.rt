@@ -37,6 +37,7 @@ fn record<'a>(
     ];
     let calls = script.map(|(_, call)| call);
     let mut buffer = [0; 15_365];
+    // Not by `map_err` and `?`: the check does not follow the borrows of the calls through them.
     let Ok(done) = perform(rt.alloc(), line, &calls, &mut buffer) else {
         return Err(anyhow!("no memory"));
     };

@@ -7,7 +7,8 @@ ghost use Rattle.plan.specs.Setups.{setup as set_up};
 use crate::setup::{Port, Setup};
 
 impl Setup {
-    // The figures of a port, all 0 where the set-up has no such port.
+    // The figures of a port, all 0 where the set-up has no such port: a caller adds them up
+    // and would make no more of an Option.
     pub(crate) fn port(&self, port: u8) -> Port
         ensures value { figures result ≡ slice_index_or (set_up self.now).ports port no_port }
         ensures delay { result.delay ≤ 100000 }
