@@ -1,7 +1,7 @@
 // Prints the gate list of each port of the plan of an input, readably and as octets.
 #![tactic(auto)]
 
-use report::{gate_lists, print_text};
+use report::print_gate_lists;
 
 // How to read what is printed.
 const HELP: &str = "\
@@ -18,6 +18,5 @@ Where nothing could be planned there is only one line:
 ";
 
 fn main(rt: HostRuntime) -> anyhow::Result<()> {
-    // A closure, since a function of another crate is not proved where its name alone is passed.
-    print_text(&rt, "gates", HELP, |heap, octets| gate_lists(heap, octets))
+    print_gate_lists(&rt, HELP)
 }

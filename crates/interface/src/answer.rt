@@ -8,6 +8,7 @@ use plan::{Answer, Reply};
 // How many octets an answer has.
 pub(crate) const SIZE: usize = 16;
 
+// The octets of an answer. No `From` here or below: these types stand in other crates.
 pub(crate) fn answer_octets(answer: Answer) -> [u8; SIZE]
     ensures value { result ≡ answer_octets answer }
 {
@@ -25,6 +26,7 @@ fn reply_octets(reply: Reply) -> [u8; SIZE]
         Reply::Done => (0, 0),
         Reply::Start(start) => (1, start.into()),
         Reply::Span(span) => (2, span.into()),
+        // `u64` has no `From<usize>`
         Reply::Records(count) => (3, count as u64),
     };
     let mut octets = [0; SIZE];

@@ -37,7 +37,8 @@ pub fn givrethans_perform_cells(
     returned_number(perform_cells(ports, cell_size, cell_time, calls, answers, buffer))
 }
 
-// The calls on an Ethernet line, or why none is performed.
+// The calls on an Ethernet line, or why none is performed. This and the next are two, since each line is filled from figures of
+// its own, of which the clauses speak.
 fn perform_ethernet(
     codes: &[u8],
     calls: &[u8],

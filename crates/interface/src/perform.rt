@@ -13,7 +13,7 @@ use crate::unperformed::Unperformed;
 use line::Line;
 use plan::{Answer, Plan};
 
-// How many calls the octets are, if they are a list of calls.
+// How many calls the octets are, if they are a list of calls: a refusal ends the fold, and `and` passes it on.
 fn call_count(octets: &[u8]) -> Result<usize, Unperformed>
     ensures value { result ≡ ok_or (counted (calls_of octets.now)) Unperformed.Calls }
 {

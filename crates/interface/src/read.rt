@@ -12,7 +12,8 @@ fn read_sheet(octets: &[u8]) -> Option<(&[u8], &[u8])>
     rest.split_at_checked(u16::from_be_bytes(*length).into())
 }
 
-// The call at the front. The numbers matched are the kinds of calls in the format for C.
+// The call at the front. The numbers matched are the kinds of calls in the format for C. Each arm reads its own numbers: a helper
+// over their width was tried, and the check does not follow its borrows.
 pub(crate) fn read_call(octets: &[u8]) -> Option<(Call<'_>, &[u8])>
     ensures value { turned spoken (got result) ≡ first_call octets.now }
 {

@@ -1,4 +1,5 @@
-// The functions that a program in C links with: the static library of the planner.
+// The functions that a program in C links with: the static library of the planner. Each repeats one of
+// `interface`, since a crate is a library or a static library and not both.
 #![tactic(auto)]
 
 ghost use Rattle.std.specs.Prelude.{◌≡◌, negsuc};

@@ -53,7 +53,7 @@ impl Line for Odd {
     }
 }
 
-// The longest wire time of a length on any port, of any line.
+// The longest wire time of a length on any port, of any line, which has a port 0.
 fn slowest<L: Line>(line: &L, length: u16) -> u32
     ensures most { (q : ℕ) → q < (L.meaning line.now).ports → (L.meaning line.now).time q length ≤ result }
     ensures some { (q : ℕ) × (q < (L.meaning line.now).ports) × ((L.meaning line.now).time q length ≡ result) }
@@ -82,11 +82,8 @@ fn figures(rt: HostRuntime) -> Result<(), Fail> {
 }
 
 // A refused filling: its fault, and what the fault tells.
-fn refused(rt: &impl Abort, answer: Result<(), PlanFault>) -> Result<(), Fail> {
-    let Err(fault) = answer else {
-        return Err(Fail::new("filled"));
-    };
-    assert_eq!(rt; fault, PlanFault::Filling);
+fn refused(rt: &impl Abort, answer: Result<(), PlanFault>) {
+    assert_eq!(rt; answer, Err(PlanFault::Filling));
     let place = Place {
         index: 0,
         bit: 0,
@@ -94,24 +91,23 @@ fn refused(rt: &impl Abort, answer: Result<(), PlanFault>) -> Result<(), Fail> {
     };
     let layer = Layer::Plan;
     assert_eq!(rt;
-        fault.refusal(),
+        PlanFault::Filling.refusal(),
         Refusal {
             number: 5,
             layer,
             place,
         }
     );
-    Ok(())
 }
 
 #[test]
 fn refused_ethernet(rt: HostRuntime) -> Result<(), Fail> {
     let mut line = Ethernet::new();
     line.fill(&[3, 2])?;
-    refused(&rt, line.fill(&[]))?;
-    refused(&rt, line.fill(&[1; 33]))?;
-    refused(&rt, line.fill(&[1, 0]))?;
-    refused(&rt, line.fill(&[1, 2, 4]))?;
+    refused(&rt, line.fill(&[]));
+    refused(&rt, line.fill(&[1; 33]));
+    refused(&rt, line.fill(&[1, 0]));
+    refused(&rt, line.fill(&[1, 2, 4]));
     assert_eq!(rt; line.ports(), 2);
     assert_eq!(rt; line.wire_time(0, 1522), 12_240);
     assert_eq!(rt; line.wire_time(1, 100), 8_640);
@@ -122,12 +118,12 @@ fn refused_ethernet(rt: HostRuntime) -> Result<(), Fail> {
 fn refused_cell(rt: HostRuntime) -> Result<(), Fail> {
     let mut line = Cell::new();
     line.fill(2, 256, 2500)?;
-    refused(&rt, line.fill(0, 256, 2500))?;
-    refused(&rt, line.fill(33, 256, 2500))?;
-    refused(&rt, line.fill(1, 63, 2500))?;
-    refused(&rt, line.fill(1, 1025, 2500))?;
-    refused(&rt, line.fill(1, 256, 0))?;
-    refused(&rt, line.fill(1, 256, 100_001))?;
+    refused(&rt, line.fill(0, 256, 2500));
+    refused(&rt, line.fill(33, 256, 2500));
+    refused(&rt, line.fill(1, 63, 2500));
+    refused(&rt, line.fill(1, 1025, 2500));
+    refused(&rt, line.fill(1, 256, 0));
+    refused(&rt, line.fill(1, 256, 100_001));
     assert_eq!(rt; line.ports(), 2);
     assert_eq!(rt; line.wire_time(1, 257), 5_000);
     Ok(())

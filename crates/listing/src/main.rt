@@ -1,7 +1,7 @@
 // Prints the listing of the input on the standard input, or how to make an input.
 #![tactic(auto)]
 
-use report::{listing, print_text};
+use report::print_listing;
 
 // How to make an input and read a listing.
 const HELP: &str = "\
@@ -23,6 +23,5 @@ or only one line, where nothing could be planned:
 ";
 
 fn main(rt: HostRuntime) -> anyhow::Result<()> {
-    // A closure, since a function of another crate is not proved where its name alone is passed.
-    print_text(&rt, "listing", HELP, |heap, octets| listing(heap, octets))
+    print_listing(&rt, HELP)
 }

@@ -26,6 +26,7 @@ fn at_every_octet(rt: HostRuntime) -> Result<(), Fail> {
         (56, 57, "F 7 0\nF 8 864\nS 1828\n"),
     ];
     for (from, to, text) in table {
+        // cut behind k octets
         for k in from..to {
             assert!(rt; k <= octets.len());
             check_listing(&rt, heap, &octets[..k], text)?;

@@ -3,7 +3,7 @@ use crate::inputs::{PORT, check_listing, input};
 use sheet::FlowRecord;
 use std::test::Fail;
 
-// The first 16 octets and the last 5 of a record, and its refusal.
+// The first 16 octets and the last 5 of a record, in two numbers as a person compares them, and its refusal.
 struct Case {
     high: u128,
     low: u64,

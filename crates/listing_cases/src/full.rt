@@ -9,7 +9,7 @@ fn more_than_64_flows(rt: HostRuntime) -> Result<(), Fail> {
     let heap = rt.alloc();
     let mut octets = input(heap, 1_000_000, &[3], &PORT, &[])?;
     let mut text = String::new(heap);
-    // Flow k + 1 starts at k times 576.
+    // Two numbers come of k: flow k + 1 starts at k times 576.
     for k in 0..64 {
         let number = k + 1;
         add_records(

@@ -7,7 +7,7 @@ use std::alloc::{AllocError, Global};
 use std::process::Abort;
 use std::test::Fail;
 
-// A port with delays of 100 and 1,000 ns and best-effort frames of any length.
+// A port with delays of 100 and 1,000 ns and best-effort frames of any length. Each crate of tests states its own inputs.
 pub const PORT: PortRecord = PortRecord {
     delay: 100,
     processing: 1_000,
@@ -68,7 +68,8 @@ pub fn check_listing(rt: &impl Abort, heap: Global, octets: &[u8], text: &str) -
     Ok(())
 }
 
-// The listing of these flows, on ports as `PORT` with these rate codes, is this text.
+// The listing of these flows, on ports as `PORT` with these rate codes, is this text. A struct of the arguments would be written
+// out in each call just so.
 pub fn check_flows(
     rt: &impl Abort,
     heap: Global,

@@ -67,7 +67,8 @@ impl Trial<'_> {
         }
     }
 
-    // One look over the rows, from the start on, past each row that the flow clashes with.
+    // One look over the rows, from the start on, past each row that the flow clashes with. A loop: a closure that a
+    // fold calls would owe that any start is below the period.
     fn pass(&self, rows: &[Row]) -> Option<u32>
         ensures skips { Skips (taken (flows rows.now) (flow self.now.row.now)) self.now.row.now.period self.now.start result }
     {
@@ -87,7 +88,7 @@ impl Trial<'_> {
     }
 }
 
-// The smallest start below its period at which the flow of a row fits beside the held ones.
+// The smallest start below its period at which the flow of a row fits beside the held ones, by as many looks as it takes.
 pub(crate) fn earliest(rows: &[Row], row: &Row) -> Option<u32>
     ensures value { result ≡ first_fitting (flows rows.now) (flow row.now) }
 {

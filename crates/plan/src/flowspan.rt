@@ -11,7 +11,7 @@ use crate::row::{Row, State};
 use crate::setup::Setup;
 
 impl Setup {
-    // The propagation delay of a port, and 0 where there is no such port.
+    // The propagation delay of a port, and 0 where there is no such port, as `port` answers.
     fn delay(&self, port: u8) -> u32
         ensures value { result ≡ (slice_index_or (stored self.now).ports port blank).delay }
         ensures most { result ≤ 100000 }

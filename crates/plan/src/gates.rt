@@ -121,7 +121,8 @@ impl<'a> PortGates<'a> {
         }
     }
 
-    // The gate record from a place on: its state lasts until another follows or the cycle ends.
+    // The gate record from a place on: its state lasts until another follows or the cycle ends. Where the next look is depends
+    // on what the last one saw.
     fn stretch(&self, place: u32) -> GateRecord
         requires place { place < self.now.cycle }
         ensures some { 0 < result.duration }

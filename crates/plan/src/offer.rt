@@ -13,7 +13,8 @@ pub(crate) struct Offer {
     ghost limited: { Limited flow },
 }
 
-// The index of the first port that is not one of a number of ports, or stands earlier in the route.
+// The index of the first port that is not one of a number of ports, or stands earlier in the route. A
+// function of its own, since before a `?` the check loses what a chain answers.
 fn misrouted_at(route: &[u8], ports: u8) -> Option<usize>
     ensures value { result ≡ position (λ p. nat_le ports p.1 || list_any (λ r. r == p.1) (take p.0 route.now)) (enumerate_from 0 route.now) }
 {

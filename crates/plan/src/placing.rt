@@ -14,7 +14,8 @@ use fault::PlanFault;
 use line::Line;
 
 impl<L: Line> Network<'_, L> {
-    // The row of an offer with start 0, or the first refusal that concerns its figures.
+    // The row of an offer with start 0, or the first refusal that concerns its figures. Its hops come from the timing, so this is
+    // no conversion of the record.
     pub(crate) fn row(&self, offer: &Offer) -> Result<Row, PlanFault>
         ensures made { let net = network (L.meaning self.now.line.now) self.now.setup.now in elim result [ Ok row ↦ Made L.LARGEST net (offered offer.now.flow) row | Err e ↦ unfit net L.LARGEST (offered offer.now.flow) ≡ Some e ] }
     {

@@ -16,6 +16,7 @@ use crate::setup::Setup;
 use line::Line;
 
 // Its line, what it was set up with, and its rows: no two flows of one number, and no two spans that overlap.
+// 64 rows, free or held: no heap.
 // Each of its calls says by itself what it leaves of them.
 #[derive(Drop)]
 pub struct Plan<L: Line> {

@@ -25,7 +25,9 @@ pub struct NoMemory<L> {
     pub line: L,
 }
 
-// Makes a plan on a line and performs the calls on it one by one; each gate list goes to the buffer.
+// Makes a plan on a line and performs the calls on it one by one; each gate list goes to the buffer. There is room for every
+// answer before the first call, so none is made whose answer is lost. The clauses speak of the line and not of the plan's,
+// since without memory there is no plan.
 pub fn perform<L: Line>(
     heap: Global,
     line: L,

@@ -5,15 +5,10 @@ ghost use Rattle.plan.specs.Rows.{flows, none, Holds, IsFree};
 
 use crate::row::{Hop, Row, State};
 
-// A free row.
+// A free row. Its numbers say nothing; the period is 1, since the type of a row asks for one.
 pub(crate) fn no_row() -> Row
     ensures value { result ≡ none }
 {
-    let hop = Hop {
-        port: 0,
-        offset: 0,
-        wire: 0,
-    };
     Row {
         state: State::Free,
         number: 0,
@@ -22,7 +17,7 @@ pub(crate) fn no_row() -> Row
         deadline: 0,
         start: 0,
         count: 0,
-        hops: [hop; 8],
+        hops: [Hop::default(); 8],
     }
 }
 

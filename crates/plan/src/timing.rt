@@ -17,7 +17,8 @@ pub(crate) struct Timing {
     pub total: u32,
 }
 
-// The index of the first hop whose wire time exceeds a period.
+// The index of the first hop whose wire time exceeds a period. A function of its own, since before a `?` the check loses what
+// a chain answers.
 fn overlong_at(hops: &[Hop], period: u32) -> Option<usize>
     ensures value { result ≡ position (λ hop. nat_lt period hop.wire) hops.now }
 {

@@ -1,4 +1,5 @@
 // The kinds of sheets, by name.
+ghost use Rattle.std.specs.Prelude.{Some, codes};
 ghost use Rattle.records.specs.Kinds.{Named};
 
 use std::error::Error;
@@ -32,6 +33,8 @@ impl FromStr for Kind {
 }
 
 impl fmt::Display for UnknownKind {
+    ghost output = { λ _. Some (codes "the kind of the records is port, flow or gate") };
+
     fn fmt<W: fmt::Write>(&self, f: &mut fmt::Formatter<W>) -> fmt::Result {
         write!(f, "the kind of the records is port, flow or gate")
     }

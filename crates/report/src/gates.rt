@@ -9,7 +9,8 @@ use line::Ethernet;
 use plan::Plan;
 use std::fmt;
 
-// The line of a gate record's octets: its state, its duration, and the octets.
+// The line of a gate record's octets: its state, its duration, and the octets. From the octets and not from a record, so that a
+// person reads what the switch is sent.
 #[derive(Clone, Copy)]
 struct GateLine([u8; 5]);
 
@@ -54,6 +55,7 @@ impl<'a> fmt::Display for PortGates<'a> {
 
     fn fmt<W: fmt::Write>(&self, f: &mut fmt::Formatter<W>) -> fmt::Result {
         let port = self.port;
+        // made anew for each port, since `fmt` is lent none
         let mut buffer = [0; 15_365];
         match self.plan.gate_list(port, &mut buffer) {
             Ok(count) => {

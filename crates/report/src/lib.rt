@@ -9,4 +9,4 @@ mod run;
 mod text;
 
 pub use printed::{gate_lists, listing};
-pub use program::print_text;
+pub use program::{print_gate_lists, print_listing};

@@ -1,7 +1,9 @@
-// A program that prints a text of its standard input. What it reads and prints no clause can tell; what it makes of its argument one can.
+// The programs that print a text of their standard input. What they read and print no clause can tell; what they make of their
+// argument one can.
 ghost use Rattle.std.specs.Prelude.{◌≡◌, ◌≢◌, ◌++◌, IsOk, IsErrAnd, Some, codes};
 ghost use Rattle.anyhow.specs.Error.{HasMessage};
 
+use crate::printed::{gate_lists, listing};
 use anyhow::ensure;
 use std::alloc::{AllocError, Global};
 use std::env;
@@ -21,7 +23,7 @@ fn check_argument(name: &str, word: &str) -> anyhow::Result<()>
 }
 
 // Prints the text of the standard input, or the help where it is asked for.
-pub fn print_text<R, F>(rt: &R, name: &str, help: &str, text: F) -> anyhow::Result<()>
+fn print_text<R, F>(rt: &R, name: &str, help: &str, text: F) -> anyhow::Result<()>
 where
     R: Env + Input + Print + AllocGlobal,
     F: FnOnce(Global, &[u8]) -> Result<String, AllocError>,
@@ -36,4 +38,20 @@ where
     rt.reader().read_to_end(&mut input)?;
     rt.print(text(rt.alloc(), &input)?)?;
     Ok(())
+}
+
+// The program that prints the listing of its input.
+pub fn print_listing<R>(rt: &R, help: &str) -> anyhow::Result<()>
+where
+    R: Env + Input + Print + AllocGlobal,
+{
+    print_text(rt, "listing", help, listing)
+}
+
+// The program that prints the gate lists of its input.
+pub fn print_gate_lists<R>(rt: &R, help: &str) -> anyhow::Result<()>
+where
+    R: Env + Input + Print + AllocGlobal,
+{
+    print_text(rt, "gates", help, gate_lists)
 }

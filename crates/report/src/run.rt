@@ -70,6 +70,7 @@ impl<'a> Run<'a> {
         let input = Input::try_from(octets)?;
         let calls = input.calls(heap)?;
         let mut done = perform(heap, input.line, &calls, &mut [])?;
+        // the answer to the set-up, whose refusal is that of the run
         done.answers.remove(0)?;
         Ok(Run { input, done })
     }

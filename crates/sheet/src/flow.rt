@@ -142,7 +142,8 @@ impl FlowRecord {
         ]
     }
 
-    // The 40 bits of the port slots: a loop for the reason that `number_of` is one.
+    // The 40 bits of the port slots: a loop for the reason that `number_of` is one. That the parts fit their bits is what `judge`
+    // finds; no type keeps it, since a record may hold any numbers.
     fn packed_route(&self) -> u64
         requires fits { Fit (route_parts self.now.ports) }
         ensures value { result ≡ packed (route_parts self.now.ports) }

@@ -29,12 +29,7 @@ impl Limited {
     pub(crate) fn zero(bit: u16, value: u32) -> Limited
         ensures value { result ≡ zero_at bit value }
     {
-        Limited {
-            bit,
-            value,
-            least: 0,
-            most: 0,
-        }
+        Limited::new(bit, value, 0, 0)
     }
 
     fn is_outside(&self) -> bool

@@ -50,7 +50,7 @@ impl fmt::Display for FlowRecord {
     }
 }
 
-// The octet in hexadecimal.
+// The octet in hexadecimal: three texts, as they are printed.
 impl fmt::Display for GateState {
     ghost output = { λ x. Some (state_text x) };
 

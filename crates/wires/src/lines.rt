@@ -60,6 +60,7 @@ impl Lines {
         }
     }
 
+    // The kind was read too, so a match picks the line.
     fn wire_time(&self, kind: Kind, port: u8, length: u16) -> u32
         ensures value { result ≡ time_of kind self.now port length }
     {

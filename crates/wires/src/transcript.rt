@@ -22,7 +22,8 @@ impl Lines {
     }
 }
 
-// Answers one line of the input at the end of the text.
+// Answers one line of the input at the end of the text. The lines and the text are two things that a call changes, and stay
+// apart.
 fn note(
     lines: &mut Lines,
     heap: Global,

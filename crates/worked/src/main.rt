@@ -47,7 +47,7 @@ fn record<'a>(
     Ok(())
 }
 
-// Fills the line, writes the sheets and makes the record.
+// Fills the line, writes the sheets and makes the record. One sentence for the three: what is refused is a mistake of this file.
 fn run(rt: &HostRuntime) -> anyhow::Result<()> {
     let mut line = Ethernet::new();
     let mut ports = [0; 16];

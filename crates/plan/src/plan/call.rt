@@ -9,7 +9,8 @@ use crate::plan::Plan;
 use line::Line;
 
 impl<L: Line> Plan<L> {
-    // Performs a call: a gate list goes to the buffer.
+    // Performs a call: a gate list goes to the buffer. Calls come as values, from octets and from lists, so a match takes them
+    // apart.
     pub fn call(&mut self, call: Call<'_>, buffer: &mut [u8]) -> Answer
         ensures value { result ≡ reply (wires_of self.old) (held_by self.old) (length buffer.old) call.entry }
         ensures line { self.new.line ≡ self.old.line }
