@@ -6,12 +6,12 @@ use sheet::RecordKind;
 use std::process::Abort;
 
 // What a refusal tells of a record: its number, and the record's index and bit.
-pub fn told(refusal: Refusal) -> (u8, usize, u16) {
+pub(crate) fn told(refusal: Refusal) -> (u8, usize, u16) {
     (refusal.number, refusal.place.index, refusal.place.bit)
 }
 
 // The octets are accepted: the record writes them again, and leaves the octet behind them.
-pub fn accepted<K: RecordKind + Drop>(rt: &impl Abort, octets: &[u8])
+pub(crate) fn accepted<K: RecordKind + Drop>(rt: &impl Abort, octets: &[u8])
     requires short { length octets.now < 22 }
 {
     let record = K::read(3, octets).expect(rt, "an accepted record");
@@ -24,7 +24,7 @@ pub fn accepted<K: RecordKind + Drop>(rt: &impl Abort, octets: &[u8])
 }
 
 // The octets are refused as record 3, with this number and bit.
-pub fn refused<K: RecordKind + Drop>(rt: &impl Abort, octets: &[u8], number: u8, bit: u16) {
+pub(crate) fn refused<K: RecordKind + Drop>(rt: &impl Abort, octets: &[u8], number: u8, bit: u16) {
     let fault = K::read(3, octets).err();
     assert_eq!(rt;
         fault.map(|fault| told(fault.refusal())),
