@@ -8,14 +8,14 @@ use std::process::Abort;
 use std::test::Fail;
 
 // A port with delays of 100 and 1,000 ns and best-effort frames of any length. Each crate of tests states its own inputs.
-pub const PORT: PortRecord = PortRecord {
+pub(crate) const PORT: PortRecord = PortRecord {
     delay: 100,
     processing: 1_000,
     best_effort: 1_522,
 };
 
 // The same flow with a chosen start.
-pub fn at(start: u32, flow: FlowRecord) -> FlowRecord
+pub(crate) fn at(start: u32, flow: FlowRecord) -> FlowRecord
     ensures number { result.number ≡ flow.number }
     ensures chosen { result.start ≡ Some start }
 {
@@ -26,7 +26,7 @@ pub fn at(start: u32, flow: FlowRecord) -> FlowRecord
 }
 
 // The cycle and the number of ports, with which an input begins.
-pub fn begun(heap: Global, cycle: u32, ports: u8) -> Result<Vec<u8>, AllocError>
+pub(crate) fn begun(heap: Global, cycle: u32, ports: u8) -> Result<Vec<u8>, AllocError>
     ensures long { IfOk result (λ v. vec_len v ≡ 5) }
 {
     let mut octets = cycle.to_be_bytes().to_vec(heap)?;
@@ -35,7 +35,7 @@ pub fn begun(heap: Global, cycle: u32, ports: u8) -> Result<Vec<u8>, AllocError>
 }
 
 // Adds records of a kind.
-pub fn add_records<K: RecordKind>(octets: &mut Vec<u8>, records: &[K]) -> Result<(), Fail> {
+pub(crate) fn add_records<K: RecordKind>(octets: &mut Vec<u8>, records: &[K]) -> Result<(), Fail> {
     let heap = *octets.allocator();
     for record in records {
         let mut buffer = vec![in heap; 0; K::SIZE]?;
@@ -46,7 +46,7 @@ pub fn add_records<K: RecordKind>(octets: &mut Vec<u8>, records: &[K]) -> Result
 }
 
 // An input of equal ports with these rate codes, and of these flows.
-pub fn input(
+pub(crate) fn input(
     heap: Global,
     cycle: u32,
     codes: &[u8],
@@ -63,14 +63,19 @@ pub fn input(
 }
 
 // The listing of an input is this text.
-pub fn check_listing(rt: &impl Abort, heap: Global, octets: &[u8], text: &str) -> Result<(), Fail> {
+pub(crate) fn check_listing(
+    rt: &impl Abort,
+    heap: Global,
+    octets: &[u8],
+    text: &str,
+) -> Result<(), Fail> {
     assert_eq!(rt; listing(heap, octets)?.as_str(), text);
     Ok(())
 }
 
 // The listing of these flows, on ports as `PORT` with these rate codes, is this text. A struct of the arguments would be written
 // out in each call just so.
-pub fn check_flows(
+pub(crate) fn check_flows(
     rt: &impl Abort,
     heap: Global,
     cycle: u32,

@@ -12,7 +12,7 @@ use std::test::Fail;
 
 // Two ports that take 101 and 233 ns for every frame of 64 to 777 octets: other numbers, by another formula, than any other line.
 #[derive(Clone, Copy)]
-pub struct Odd;
+pub(crate) struct Odd;
 
 impl Line for Odd {
     const LARGEST: u16 = 777;

@@ -7,14 +7,18 @@ use std::process::Abort;
 use std::test::Fail;
 
 // Offers one flow record.
-pub fn offer<L: Line>(plan: &mut Plan<L>, flow: FlowRecord) -> Result<u32, PlanFault> {
+pub(crate) fn offer<L: Line>(plan: &mut Plan<L>, flow: FlowRecord) -> Result<u32, PlanFault> {
     let mut sheet = [0; 21];
     flow.write(&mut sheet)?;
     plan.offer(&sheet, 0)
 }
 
 // Offers one flow record at a chosen start.
-pub fn offer_at<L: Line>(plan: &mut Plan<L>, flow: FlowRecord, s: u32) -> Result<u32, PlanFault> {
+pub(crate) fn offer_at<L: Line>(
+    plan: &mut Plan<L>,
+    flow: FlowRecord,
+    s: u32,
+) -> Result<u32, PlanFault> {
     let chosen = FlowRecord {
         start: Some(s),
         ..flow
@@ -23,7 +27,11 @@ pub fn offer_at<L: Line>(plan: &mut Plan<L>, flow: FlowRecord, s: u32) -> Result
 }
 
 // A plan of two equal ports of a line.
-pub fn two_ports<L: Line>(line: L, cycle: u32, port: PortRecord) -> Result<Plan<L>, PlanFault>
+pub(crate) fn two_ports<L: Line>(
+    line: L,
+    cycle: u32,
+    port: PortRecord,
+) -> Result<Plan<L>, PlanFault>
 where
     L: Drop,
 {
@@ -35,14 +43,14 @@ where
 }
 
 // A line filled with the rate codes of its ports.
-pub fn ethernet(codes: &[u8]) -> Result<Ethernet, PlanFault> {
+pub(crate) fn ethernet(codes: &[u8]) -> Result<Ethernet, PlanFault> {
     let mut line = Ethernet::new();
     line.fill(codes)?;
     Ok(line)
 }
 
 // Two ports at 1,000 Mb/s with delays of 100 and 1,000 ns and best-effort frames of any length.
-pub fn gigabit(cycle: u32) -> Result<Plan<Ethernet>, PlanFault> {
+pub(crate) fn gigabit(cycle: u32) -> Result<Plan<Ethernet>, PlanFault> {
     two_ports(
         ethernet(&[3, 3])?,
         cycle,
@@ -55,7 +63,7 @@ pub fn gigabit(cycle: u32) -> Result<Plan<Ethernet>, PlanFault> {
 }
 
 // The records at the front of a buffer are these states with their durations.
-pub fn check_list(
+pub(crate) fn check_list(
     rt: &impl Abort,
     buffer: &[u8],
     expected: &[(GateState, u32)],
