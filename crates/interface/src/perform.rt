@@ -13,7 +13,9 @@ use crate::unperformed::Unperformed;
 use line::Line;
 use plan::{Answer, Plan};
 
-// How many calls the octets are, if they are a list of calls: a refusal ends the fold, and `and` passes it on.
+// How many calls the octets are, if they are a list of calls: a refusal ends the fold, and `and` passes it on. Not inlined:
+// within `performed` it would have the memory of the plan cleared before the octets are read, refused ones too.
+#[inline(never)]
 fn call_count(octets: &[u8]) -> Result<usize, Unperformed>
     ensures value { result ≡ ok_or (counted (calls_of octets.now)) Unperformed.Calls }
 {
