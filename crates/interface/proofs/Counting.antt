@@ -13,16 +13,16 @@ use Rattle.interface.specs.Spoken.{ReadsNext, Spoken, Front, spoken, first_call,
 use Rattle.interface.proofs.Reading.{first_shorter, calls-first, calls-none}
 
 -- n and, if they can be counted, some more
-abbrev and_more : ℕ → Option ℕ → Option ℕ
+abbrev pub and_more : ℕ → Option ℕ → Option ℕ
 and_more n None = None
 and_more n (Some m) = Some (n + m)
 
-and_more-zero : (o : Option ℕ) → and_more 0 o ≡ o
-and_more-zero None = refl
-and_more-zero (Some m) = ap Some (zero-add m)
+pub none_and_more : (o : Option ℕ) → o ≡ and_more 0 o
+none_and_more None = refl
+none_and_more (Some m) = ap Some (sym (zero-add m))
 
 -- one call more
-counts-one : (n : ℕ) (s : List ℕ) (c : Spoken) (rest : List ℕ) → ◌≡◌ {A = Front Spoken} (Some (c, rest)) (first_call s) →
+pub counts-one : (n : ℕ) (s : List ℕ) (c : Spoken) (rest : List ℕ) → ◌≡◌ {A = Front Spoken} (Some (c, rest)) (first_call s) →
     and_more n (counted (calls_of s)) ≡ and_more (n + 1) (counted (calls_of rest))
 counts-one n s c rest is = ap (λ (o : Option (List Spoken)). and_more n (counted o)) (calls-first s c rest is) ∙ go (calls_of rest)
   where
@@ -55,7 +55,7 @@ pub told-counted : (r : Result ℕ Unperformed) (o : Option (Result Call Unperfo
 told-counted r o Stops n s rest behind is read refused match = go o read match
   where
     all : counted (calls_of s) ≡ and_more n (counted (calls_of rest))
-    all = sym (and_more-zero (counted (calls_of s))) ∙ is
+    all = none_and_more (counted (calls_of s)) ∙ is
 
     stop : (x : Result Call Unperformed) → ReadsNext rest (Some x) behind → (e : Unperformed) × (x ≡ Err e) × (r ≡ Err e) → r ≡ ok_or (counted (calls_of s)) no_calls
     stop (Ok c) read told = absurd (let no = told.1 in let z : ◌≡◌ {A = ℕ} 0 1 = cc in omega arith)

@@ -1,6 +1,6 @@
 -- What octets come to, by the ways that a list of calls can go.
 -- Assumes nothing.
-use Rattle.std.proofs.Common.{◌≡◌, ◌≢◌, ℕ, ◌*◌, ◌<◌, ◌≤◌, leb, List, [], ◌++◌, map, length, take, drop, pos, negsuc, Some, None, Ok, Err, Option, Result, sym, refl, ap, ◌∙◌, arith}
+use Rattle.std.proofs.Common.{◌≡◌, ◌≢◌, ℕ, ◌*◌, ◌<◌, ◌≤◌, leb, List, [], ◌∷◌, ◌++◌, map, length, take, drop, pos, negsuc, Some, None, Ok, Err, Option, Result, sym, refl, ap, ◌∙◌, arith}
 use Rattle.std.proofs.lemmas.List.{length-drop, length-map, take_all}
 use Rattle.std.proofs.lemmas.Bool.{le-leb, lt-leb, cond-true, cond-false}
 use Rattle.std.specs.Option.{ok_or}
@@ -49,17 +49,18 @@ module _ (w : Wires) (answers buffer : List ℕ) where
 pub not-refused : (rest : List ℕ) (ss : List Spoken) → calls_of rest ≡ Some ss → rest ≢ [] → ◌≡◌ {A = Front Spoken} None (first_call rest) → ⊥
 not-refused rest ss left some none = absurd (let is = calls-none rest some none in let z : ◌≡◌ {A = ℕ} 0 1 = cc in omega arith)
 
--- at the end of the octets no call is left
-none_left : (rest : List ℕ) (ss : List Spoken) (i : ℕ) → rest ≡ [] → calls_of rest ≡ Some (drop i ss) → length ss ≤ i
-none_left rest ss i none left =
-    let same : [] ≡ drop i ss = let all = sym (ap calls_of none) ∙ left in cc in
+-- no call is left behind the last
+none_left : (rest : List ℕ) (ss : List Spoken) (i : ℕ) → ◌≡◌ {A = Front Spoken} None (first_call rest) → calls_of rest ≡ Some (drop i ss) → length ss ≤ i
+none_left [] ss i none left =
+    let same : [] ≡ drop i ss = cc in
     let few = ap (length {A = Spoken}) same in
     let all = length-drop i ss in
     omega arith
+none_left (x ∷ rest) ss i none left = absurd (not-refused (x ∷ rest) (drop i ss) left (λ same. let z : ◌≡◌ {A = ℕ} 0 1 = cc in omega arith) none)
 
 -- behind the last call all is answered and written
 module _ (w : Wires) (ss : List Spoken) (answers₀ buffer₀ : List ℕ) (i : ℕ) (rest : List ℕ) (m : Model) (answers buffer : List ℕ) where
-  pub gone_through : Going w ss answers₀ buffer₀ i rest m answers buffer → rest ≡ [] →
+  pub gone_through : Going w ss answers₀ buffer₀ i rest m answers buffer → ◌≡◌ {A = Front Spoken} None (first_call rest) →
       came_to (pos (length (map call ss))) answers buffer ≡ done w (map call ss) answers₀ buffer₀
   gone_through g none =
       let cs = map call ss in

@@ -29,7 +29,7 @@ held-state r busy = go r.state busy
     go Held busy = refl
 
 -- no row holds number n
-held_none : (n : ℕ) (rows : List Row) → ((k : ℕ) → k < length rows → Holds n (get_or rows k none) → ⊥) → held n (flows rows) ≡ false
+pub held_none : (n : ℕ) (rows : List Row) → ((k : ℕ) → k < length rows → Holds n (get_or rows k none) → ⊥) → held n (flows rows) ≡ false
 held_none n [] free = refl
 held_none n (r ∷ rows) free = go r.state refl (held_none n rows (λ k below. free (suc k) (omega arith)))
   where
@@ -145,7 +145,7 @@ each-flow P (r ∷ rows) each j f at = go (each-flow P rows (λ k below. each (s
     go rest Held (suc j) f (next at) = rest j f at
 
 -- every row holds a flow
-flows_full : (rows : List Row) → ((k : ℕ) → k < length rows → IsFree (get_or rows k none) → ⊥) → length (flows rows) ≡ length rows
+pub flows_full : (rows : List Row) → ((k : ℕ) → k < length rows → IsFree (get_or rows k none) → ⊥) → length (flows rows) ≡ length rows
 flows_full [] busy = refl
 flows_full (r ∷ rows) busy =
     subst (λ (state : State). length (more state r (flows rows)) ≡ suc (length rows)) (sym (held-state r (busy 0 (omega arith))))

@@ -8,13 +8,22 @@ use Rattle.plan.specs.declared.call.Call.TheVariants.{SetUp, Offer, Flowspan}
 use Rattle.report.specs.Inputs.{cycle, count, head, rate_codes, port_sheet, flow_sheet, records, offers, calls}
 
 -- the cycle from the first four of its octets
-pub cycle-is : (s : List ℕ) → 5 ≤ length s →
-    get_or (take 5 s) 0 0 * 16777216 + get_or (take 5 s) 1 0 * 65536 + get_or (take 5 s) 2 0 * 256 + get_or (take 5 s) 3 0 ≡ cycle s
+pub cycle-is : (s : List ℕ) → 4 ≤ length s → get_or s 0 0 * 16777216 + get_or s 1 0 * 65536 + get_or s 2 0 * 256 + get_or s 3 0 ≡ cycle s
 cycle-is [] long = absurd (omega arith)
 cycle-is (a ∷ []) long = absurd (omega arith)
 cycle-is (a ∷ b ∷ []) long = absurd (omega arith)
 cycle-is (a ∷ b ∷ c ∷ []) long = absurd (omega arith)
 cycle-is (a ∷ b ∷ c ∷ d ∷ s) long = omega arith
+
+-- the same where its first five are taken apart
+pub cycle_taken : (s : List ℕ) → 5 ≤ length s →
+    get_or (take 5 s) 0 0 * 16777216 + get_or (take 5 s) 1 0 * 65536 + get_or (take 5 s) 2 0 * 256 + get_or (take 5 s) 3 0 ≡ cycle s
+cycle_taken s long =
+    let a = get_or-take 5 s 0 0 (omega arith) in
+    let b = get_or-take 5 s 1 0 (omega arith) in
+    let c = get_or-take 5 s 2 0 (omega arith) in
+    let d = get_or-take 5 s 3 0 (omega arith) in
+    (λ i. a i * 16777216 + b i * 65536 + c i * 256 + d i) ∙ cycle-is s (omega arith)
 
 -- an input that is split behind its five first octets and behind its rate codes
 module _ (s begin rest : List ℕ) (begin-is : begin ≡ take 5 s) (rest-is : rest ≡ drop 5 s) where

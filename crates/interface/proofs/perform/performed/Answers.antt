@@ -1,5 +1,5 @@
 -- Call by call the answers, the plan and the buffer are the defined ones, and what a plan holds is assured.
-use Rattle.std.proofs.Common.{ℕ, map, length, pos, Some, Err, Result, sym, refl, ap, ◌∙◌, subst, arith}
+use Rattle.std.proofs.Common.{◌≡◌, ℕ, List, map, length, pos, Some, None, Err, Result, sym, refl, ap, ◌∙◌, subst, arith}
 use Rattle.std.specs.Iterator.Adapters.{enumerate_source, enumerate_count}
 use Rattle.std.proofs.lemmas.Result.{err_from_is_err_and}
 use Rattle.std.proofs.lemmas.List.{length-map}
@@ -14,7 +14,7 @@ use Rattle.plan.proofs.Called.{same_of}
 use Rattle.interface.specs.declared.calls.Calls.{Calls}
 use Rattle.interface.specs.declared.unperformed.Unperformed.{Unperformed}
 use Rattle.interface.specs.Performed.{came_to, done, returned_number}
-use Rattle.interface.specs.Spoken.{ReadsNext, call, calls_of, spoken}
+use Rattle.interface.specs.Spoken.{Front, ReadsNext, Spoken, call, calls_of, first_call, spoken}
 use Rattle.interface.proofs.Outcomes.{listed, not-counted, is-counted, performs, no-calls, no_room, all_done, not-refused, gone_through}
 use Rattle.interface.proofs.Performing.{Going, going-at-first, room-left, going_on}
 use Rattle.interface.proofs.Reading.{first_call-next}
@@ -119,6 +119,7 @@ returns g c =
     let count = is-counted (calls_of calls) c.in_ok-count.count c.in_ok-count.ensures.value in
     let many = count.1 in
     let is = all_done w a b (calls_of calls) ss count.0 (omega arith) in
-    let through = gone_through _ ss a b (enumerate_count c.loop-index.index-iterator) (enumerate_source c.loop-index.index-iterator).0.now _ c.loop-index.answers c.loop-index.buffer c.loop-index.invariant.1 c.in-None.ensures.steps.0.0 in
+    let none = subst (λ (s : List ℕ). ◌≡◌ {A = Front Spoken} None (first_call s)) (sym c.in-None.ensures.steps.0.0) refl in
+    let through = gone_through _ ss a b (enumerate_count c.loop-index.index-iterator) (enumerate_source c.loop-index.index-iterator).0.now _ c.loop-index.answers c.loop-index.buffer c.loop-index.invariant.1 none in
     let number = ap pos (many ∙ sym (length-map ss call)) in
     record { performs = performs w (rules g x) calls a b _ (ap (λ n. came_to n c.loop-index.answers c.loop-index.buffer) number ∙ through ∙ ap (λ (u : Wires). done u (map call ss) a b) v ∙ is) }

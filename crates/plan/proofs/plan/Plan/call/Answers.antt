@@ -3,7 +3,7 @@ use Rattle.std.proofs.Common.{rules, ◌≡◌, refl, ap, ◌∙◌}
 use Rattle.plan.specs.declared.call.Reply.TheVariants.{Done, Start, Span, Records}
 use Rattle.plan.specs.Models.{wires}
 use Rattle.plan.specs.Steps.{told}
-use Rattle.plan.proofs.Called.{alike_of, told_forgot, set_up_called, offer_called, withdraw_called}
+use Rattle.plan.proofs.Called.{alike_of, told_forgot, set_up_called, rows_offered, rows_withdrawn}
 use Rattle.plan.proofs.plan.Plan.call.Goals as goal
 
 pub returns-in-SetUp-clause-value : goal.returns-in-SetUp-clause-value
@@ -26,7 +26,7 @@ pub returns-in-Offer-clause-after : goal.returns-in-Offer-clause-after
 returns-in-Offer-clause-after g c =
     let plan = c.args.self.now in
     let does = c.offer.ensures in
-    rw c.in-Offer.is (offer_called (wires g.L.Line.LARGEST (g.L.Line.meaning plan.line)) plan.setup _ plan.rows c.offer.new.self.rows c.in-Offer.flows c.in-Offer.index _ does.value does.setup does.after)
+    rw c.in-Offer.is (rows_offered (wires g.L.Line.LARGEST (g.L.Line.meaning plan.line)) plan.setup _ plan.rows c.offer.new.self.rows c.in-Offer.flows c.in-Offer.index _ does.value does.setup does.after)
 
 pub returns-in-Withdraw-clause-value : goal.returns-in-Withdraw-clause-value
 returns-in-Withdraw-clause-value g c =
@@ -37,7 +37,7 @@ pub returns-in-Withdraw-clause-after : goal.returns-in-Withdraw-clause-after
 returns-in-Withdraw-clause-after g c =
     let plan = c.args.self.now in
     let does = c.withdraw.ensures in
-    rw c.in-Withdraw.is (withdraw_called (wires g.L.Line.LARGEST (g.L.Line.meaning plan.line)) plan.setup _ plan.rows c.withdraw.new.self.rows c.in-Withdraw.number _ does.value does.setup does.after)
+    rw c.in-Withdraw.is (rows_withdrawn (wires g.L.Line.LARGEST (g.L.Line.meaning plan.line)) plan.setup _ plan.rows c.withdraw.new.self.rows c.in-Withdraw.number _ does.value does.setup does.after)
 
 pub returns-in-StartOf-clause-value : goal.returns-in-StartOf-clause-value
 returns-in-StartOf-clause-value g c =

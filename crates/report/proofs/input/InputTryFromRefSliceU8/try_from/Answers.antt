@@ -3,7 +3,7 @@ use Rattle.std.proofs.Common.{◌≡◌, ℕ, ◌+◌, ◌*◌, ◌≤◌, List,
 use Rattle.std.proofs.lemmas.Result.{err_from_is_err_and}
 use Rattle.line.specs.Fillings.{Codes, Coded}
 use Rattle.report.specs.Inputs.{head}
-use Rattle.report.proofs.Inputs.{cycle-is, codes-are, ports_are, flows_are, head-le}
+use Rattle.report.proofs.Inputs.{cycle_taken, codes-are, ports_are, flows_are, head-le}
 use Rattle.report.proofs.Runs.{input-line_refused, input-line_filled}
 use Rattle.report.proofs.input.InputTryFromRefSliceU8.try_from.Goals as goal
 
@@ -31,7 +31,7 @@ returns c =
     let same = codes ∙ codes-are s _ _ begin rest in
     let filled = c.in_ok-fill.ensures.filled in
     record {
-      cycle = c.from_be_bytes-cycle.ensures ∙ ap (λ (t : List ℕ). get_or t 0 0 * 16777216 + get_or t 1 0 * 65536 + get_or t 2 0 * 256 + get_or t 3 0) begin ∙ cycle-is s some;
+      cycle = c.from_be_bytes-cycle.ensures ∙ ap (λ (t : List ℕ). get_or t 0 0 * 16777216 + get_or t 1 0 * 65536 + get_or t 2 0 * 256 + get_or t 3 0) begin ∙ cycle_taken s some;
       line = input-line_filled s long c.fill.new.self (subst Codes same filled.0) (subst (λ (cs : List ℕ). Coded cs c.fill.new.self) same filled.1);
       ports = ports ∙ ports_are s _ _ begin rest;
       flows = flows ∙ flows_are s _ _ begin rest;
