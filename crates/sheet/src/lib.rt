@@ -16,4 +16,5 @@ pub use gate::{GateRecord, GateState, UnknownState};
 pub use kind::RecordKind;
 pub use port::PortRecord;
 pub use reader::{Reader, whole_records};
+pub use text::Start;
 pub use writer::write_sheet;

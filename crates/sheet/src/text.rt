@@ -8,9 +8,9 @@ use crate::gate::{GateRecord, GateState};
 use crate::port::PortRecord;
 use std::fmt;
 
-// A start in readable text.
-#[derive(Clone, Copy)]
-struct Start(Option<u32>);
+// A start in readable text: the chosen one, or that none is chosen.
+#[derive(Clone, Copy, PartialEq, Eq, Debug)]
+pub struct Start(pub Option<u32>);
 
 impl fmt::Display for Start {
     ghost output = { λ x. Some (start_text x.0) };
